@@ -1,0 +1,4 @@
+pub mod Numbers
+pub mod Model
+pub mod Table
+pub mod Law
