@@ -1,4 +1,5 @@
 pub mod Numbers
 pub mod Model
 pub mod Table
+pub mod Meaning
 pub mod Law
