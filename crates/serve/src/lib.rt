@@ -1,1 +1,6 @@
-fn nothing() {}
+// A whole session on bytes: frames in, a line each, and the text of the replies out. This is
+// what the programs run, over any store.
+mod line;
+mod session;
+
+pub use session::serve;

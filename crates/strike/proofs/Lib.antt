@@ -1,0 +1,4 @@
+pub mod Pairs
+pub mod Clears
+pub mod Walks
+pub mod Fresh
