@@ -1,6 +1,6 @@
 // A whole session on bytes: frames in, a line each, and the text of the replies out. This is
 // what the programs run, over any store.
 mod line;
-mod session;
+mod whole;
 
-pub use session::serve;
+pub use whole::serve;

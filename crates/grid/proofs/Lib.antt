@@ -1,0 +1,9 @@
+pub mod Bits
+pub mod Tallies
+pub mod Low
+pub mod Puts
+pub mod Spans
+pub mod Wipes
+pub mod Changes
+pub mod Whole
+pub mod Replies

@@ -1,0 +1,5 @@
+pub mod Shifts
+pub mod Held
+pub mod Listings
+pub mod Replies
+pub mod Changes
