@@ -1,5 +1,5 @@
 -- A join and a part on cells: what the search for the number found, and what the shift leaves.
-use mathlib.Core.Path.{_≡_, refl, sym, _∙_, ap, subst}
+use mathlib.Core.Path.{_≡_, sym, _∙_, ap, subst}
 use mathlib.Core.Bool.{Bool, true, false, _&&_}
 use mathlib.Core.List.{List}
 use Prim.Native.Nat.{ℕ, _+_, _-_, _*_, _<_, _≤_}
@@ -9,7 +9,7 @@ use lib.Dec.{eqb, ltb}
 use lib.ListN.{getD, length}
 use Rattle.std.specs.Orderings.{Decides}
 use Rattle.std.proofs.shelf.Ways.{decides-and, decides-ltb, decides-eqb}
-use Rattle.graph.specs.Graph.{Graph, order-limit, edges, with-edge, without-edge}
+use Rattle.graph.specs.Graph.{order-limit, edges, with-edge, without-edge}
 use Rattle.graph.proofs.Edges.{edges-most, one-edge-more, one-edge-less}
 use Rattle.list.specs.Cells.{code, held, Rising, listing, listing-simple, place, inserted-cells, removed-cells}
 use Rattle.list.specs.Meaning.{codes-of}
@@ -60,23 +60,27 @@ module _ (n k : ℕ) (xs : List ℕ) (u v d at : ℕ) (kept : Kept n k xs) (s : 
   pub inserted-value : (ys : List ℕ) → ys ≡ inserted-cells xs k at d → ys ≡ inserted-cells xs k (place k xs (code u v)) (code u v)
   inserted-value ys e = e ∙ rw (s .value, s .number)
 
+  -- The cells after a removal there are those after a part.
   pub removed-value : (ys : List ℕ) → ys ≡ removed-cells xs k at → ys ≡ removed-cells xs k (place k xs (code u v))
   removed-value ys e = e ∙ rw (s .value, s .number)
 
+  -- What stands at each place after the insertion.
   inserted-in : (ys : List ℕ) → k < length xs → ys ≡ inserted-cells xs k at d → Inserted xs ys k at d
   inserted-in ys room e = subst (λ (zs : List ℕ). Inserted xs zs k at d) (sym e) (inserted-places xs k at d (s .bound) room)
 
+  -- What stands at each place after the removal.
   removed-in : (ys : List ℕ) → at < k → ys ≡ removed-cells xs k at → Removed xs ys k at
   removed-in ys l e = subst (λ (zs : List ℕ). Removed xs zs k at) (sym e) (removed-places xs k at l (kept .fits))
 
-  -- An insertion keeps the number of cells, and lays the edge.
+  -- An insertion keeps the number of cells.
   pub inserted-size : (ys : List ℕ) → k < length xs → ys ≡ inserted-cells xs k at d → length ys ≡ length xs
   inserted-size ys room e = inserted-in ys room e .size
 
+  -- An insertion lays the edge.
   pub inserted-graph : (ys : List ℕ) → k < length xs → ys ≡ inserted-cells xs k at d → listing n (k + 1) ys ≡ with-edge (listing n k xs) u v
   inserted-graph ys room e =
       listing-inserted n k xs ys at u v (kept .small) (s .first) (s .second) (s .differ) (s .bound)
-        (subst (λ (x : ℕ). Inserted xs ys k at x) (s .number) (inserted-in ys room e))
+      (subst (λ (x : ℕ). Inserted xs ys k at x) (s .number) (inserted-in ys room e))
 
   -- An insertion of what was not held leaves a list that keeps the facts.
   pub inserted-kept : (ys : List ℕ) → k < length xs → listing n k xs .joined u v ≡ false → ys ≡ inserted-cells xs k at d → Kept n (k + 1) ys
@@ -91,10 +95,11 @@ module _ (n k : ℕ) (xs : List ℕ) (u v d at : ℕ) (kept : Kept n k xs) (s : 
         tally = ap edges (inserted-graph ys room e) ∙ more ∙ ap (λ (x : ℕ). x + 1) (kept .tally);
       }
 
-  -- A removal keeps the number of cells, and takes the edge up.
+  -- A removal keeps the number of cells.
   pub removed-size : (ys : List ℕ) → at < k → ys ≡ removed-cells xs k at → length ys ≡ length xs
   removed-size ys l e = removed-in ys l e .size
 
+  -- A removal takes the edge up.
   pub removed-graph : (ys : List ℕ) → at < k → getD xs at 0 ≡ d → ys ≡ removed-cells xs k at → listing n (k - 1) ys ≡ without-edge (listing n k xs) u v
   removed-graph ys l stood e =
       listing-removed n k xs ys at u v (kept .small) (s .first) (s .second) (kept .rising) l (stood ∙ s .number) (removed-in ys l e)

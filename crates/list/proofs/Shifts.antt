@@ -1,7 +1,7 @@
 -- Cells moved up and down by one: what stands at each place, which says the same as the lists of specs/.
-use mathlib.Core.Path.{_≡_, refl, sym, _∙_, ap}
+use mathlib.Core.Path.{_≡_, sym, _∙_, ap}
 use mathlib.Core.List.{List}
-use mathlib.Core.Logic.{_⊎_, ⊎-elim}
+use mathlib.Core.Logic.{⊎-elim}
 use Prim.Native.Nat.{ℕ, _+_, _-_, _<_, _≤_}
 use native.Mathlib.Omega.{arith}
 use lib.ListN.{getD, length}
@@ -52,18 +52,18 @@ inserted-once xs ys zs k at c le p q = ext-getD 0 ys zs (p .size ∙ sym (q .siz
     same : (i : ℕ) → getD ys i 0 ≡ getD zs i 0
     same i =
         ⊎-elim
-          (λ l. p .before i l ∙ sym (q .before i l))
-          (λ l. ⊎-elim
-            (λ m. p .rest i m ∙ sym (q .rest i m))
-            (λ m. ⊎-elim
-              (λ e. ap (λ (j : ℕ). getD ys j 0) e ∙ p .here ∙ sym (q .here) ∙ ap (λ (j : ℕ). getD zs j 0) (sym e))
-              (λ ne. let e : i ≡ i - 1 + 1 = omega (arith, ne) in
-                     ap (λ (j : ℕ). getD ys j 0) e
-                     ∙ p .after (i - 1) (omega (arith, ne)) (omega (arith, ne)) ∙ sym (q .after (i - 1) (omega (arith, ne)) (omega (arith, ne)))
-                     ∙ ap (λ (j : ℕ). getD zs j 0) (sym e))
-              (cases-eq i at))
-            (cases-lt k i))
-          (cases-lt i at)
+        (λ l. p .before i l ∙ sym (q .before i l))
+        (λ l. ⊎-elim
+        (λ m. p .rest i m ∙ sym (q .rest i m))
+        (λ m. ⊎-elim
+        (λ e. ap (λ (j : ℕ). getD ys j 0) e ∙ p .here ∙ sym (q .here) ∙ ap (λ (j : ℕ). getD zs j 0) (sym e))
+        (λ ne. let e : i ≡ i - 1 + 1 = omega (arith, ne) in
+        ap (λ (j : ℕ). getD ys j 0) e
+        ∙ p .after (i - 1) (omega (arith, ne)) (omega (arith, ne)) ∙ sym (q .after (i - 1) (omega (arith, ne)) (omega (arith, ne)))
+        ∙ ap (λ (j : ℕ). getD zs j 0) (sym e))
+        (cases-eq i at))
+        (cases-lt k i))
+        (cases-lt i at)
 
 -- And so after a removal.
 pub removed-once : (xs ys zs : List ℕ) (k at : ℕ) → at < k → Removed xs ys k at → Removed xs zs k at → ys ≡ zs
@@ -72,12 +72,12 @@ removed-once xs ys zs k at l p q = ext-getD 0 ys zs (p .size ∙ sym (q .size)) 
     same : (i : ℕ) → getD ys i 0 ≡ getD zs i 0
     same i =
         ⊎-elim
-          (λ m. p .before i m ∙ sym (q .before i m))
-          (λ m. ⊎-elim
-            (λ h. p .after i m h ∙ sym (q .after i m h))
-            (λ h. ⊎-elim
-              (λ e. ap (λ (j : ℕ). getD ys j 0) e ∙ p .freed ∙ sym (q .freed) ∙ ap (λ (j : ℕ). getD zs j 0) (sym e))
-              (λ ne. p .rest i (omega (arith, ne)) ∙ sym (q .rest i (omega (arith, ne))))
-              (cases-eq i (k - 1)))
-            (cases-lt (i + 1) k))
-          (cases-lt i at)
+        (λ m. p .before i m ∙ sym (q .before i m))
+        (λ m. ⊎-elim
+        (λ h. p .after i m h ∙ sym (q .after i m h))
+        (λ h. ⊎-elim
+        (λ e. ap (λ (j : ℕ). getD ys j 0) e ∙ p .freed ∙ sym (q .freed) ∙ ap (λ (j : ℕ). getD zs j 0) (sym e))
+        (λ ne. p .rest i (omega (arith, ne)) ∙ sym (q .rest i (omega (arith, ne))))
+        (cases-eq i (k - 1)))
+        (cases-lt (i + 1) k))
+        (cases-lt i at)

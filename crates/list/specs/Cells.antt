@@ -20,7 +20,7 @@ use Rattle.graph.specs.Graph.{Graph, Simple, order-limit, count}
 abbrev pub code : ℕ → ℕ → ℕ
 code u v = min u v * 256 + max u v
 
--- No edge has this number.
+-- No edge has this number, since 255 is no vertex.
 abbrev pub free : ℕ
 free = 65535
 
@@ -52,15 +52,18 @@ inserted-cells xs k at c = take at xs ++ (c ∷ (take (k - at) (drop at xs) ++ d
 abbrev pub removed-cells : List ℕ → ℕ → ℕ → List ℕ
 removed-cells xs k at = take at xs ++ (take (k - (at + 1)) (drop (at + 1) xs) ++ (free ∷ drop k xs))
 
+-- Two tests in either order.
 and-swap : (a b : Bool) → (a && b) ≡ (b && a)
 and-swap true true = refl
 and-swap true false = refl
 and-swap false true = refl
 and-swap false false = refl
 
+-- Two numbers compared in either order.
 eqb-swap : (a b : ℕ) → eqb a b ≡ eqb b a
 eqb-swap a b = same-from-decides (eqb a b) (eqb b a) (decides-eqb a b) (decides-like (eqb b a) sym sym (decides-eqb b a))
 
+-- An edge has one number from either end.
 code-swap : (u v : ℕ) → code u v ≡ code v u
 code-swap u v = ap₂ (λ (x y : ℕ). x * 256 + y) (min-comm u v) (max-comm u v)
 
@@ -70,11 +73,11 @@ listing-simple n k xs some small = record {
   some = some;
   small = small;
   symmetric = λ u v.
-    ap₂ (λ (x y : Bool). x && y)
+      ap₂ (λ (x y : Bool). x && y)
       (ap₂ (λ (x y : Bool). x && not y) (and-swap (ltb u n) (ltb v n)) (eqb-swap u v))
       (ap (held k xs) (code-swap u v));
   irreflexive = λ u. and-left _ _ (and-right (ltb u n && ltb u n) _ (not-from-true _ (eq-eqb u u refl)));
   bounded = λ u v h.
-    let inside = and-parts _ _ (and-parts _ _ (and-parts _ _ h .0) .0) in
-    (ltb-true u n (inside .0), ltb-true v n (inside .1));
+      let inside = and-parts _ _ (and-parts _ _ (and-parts _ _ h .0) .0) in
+      (ltb-true u n (inside .0), ltb-true v n (inside .1));
 }

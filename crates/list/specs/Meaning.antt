@@ -16,9 +16,11 @@ use Rattle.model.specs.Table.{Reply}
 use Rattle.list.specs.Cells.{code, listing, place, inserted-cells, removed-cells}
 use Rattle.list.specs.declared.List.{List as Store}
 
+-- What the cells hold.
 abbrev pub codes-of : Store → List ℕ
 codes-of s = now (s .cells .codes)
 
+-- The graph that the cells in use mean.
 abbrev pub graph-of : Store → Graph
 graph-of s = listing (s .n) (s .count) (codes-of s)
 
@@ -38,11 +40,12 @@ laid-cells s u v = inserted-cells (codes-of s) (s .count) (place (s .count) (cod
 abbrev pub taken-cells : Store → ℕ → ℕ → List ℕ
 taken-cells s u v = removed-cells (codes-of s) (s .count) (place (s .count) (codes-of s) (code u v))
 
--- A refused call changes no cell.
+-- A refused join changes no cell.
 abbrev pub joined-cells : Reply → Store → ℕ → ℕ → List ℕ
 joined-cells (Ok _) s u v = laid-cells s u v
 joined-cells (Err _) s u v = codes-of s
 
+-- Nor does a refused part.
 abbrev pub parted-cells : Reply → Store → ℕ → ℕ → List ℕ
 parted-cells (Ok _) s u v = taken-cells s u v
 parted-cells (Err _) s u v = codes-of s

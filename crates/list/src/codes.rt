@@ -41,7 +41,7 @@ pub fn seek(codes: &[u16], count: usize, c: u16) -> usize
 }
 
 // Whether the cell at that place is in use and holds c.
-pub fn holds_at(codes: &[u16], count: usize, at: usize, c: u16) -> bool
+fn holds_at(codes: &[u16], count: usize, at: usize, c: u16) -> bool
     requires { ⌜ count ≤ length (now codes) ⌝ }
     ensures { λ r. ⌜ Decides r ((at < count) × (getD (now (codes .entry)) at 0 ≡ c)) ⌝ }
 {

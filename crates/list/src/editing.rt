@@ -22,6 +22,7 @@ pub impl<'a> Editable for List<'a> as ListEditable {
 
     ghost lent = { λ memory. lent-cells (now memory) };
 
+    // Whether n is an order that a make accepts; any number of cells is enough.
     fn room(n: u16, memory: &&'a mut [u16]) -> Result<(), Refusal> {
         if n < 1 || n > 200 {
             return Err(Refusal::BadOrder);
@@ -29,10 +30,12 @@ pub impl<'a> Editable for List<'a> as ListEditable {
         Ok(())
     }
 
+    // A map of n vertices and no edge; `blank` says that no cell is touched.
     fn make(n: u16, memory: &'a mut [u16]) -> List<'a> {
         List::blank(n, memory)
     }
 
+    // As many edges as cells.
     fn capacity(&mut self) -> usize {
         self.cells.len()
     }

@@ -24,11 +24,13 @@ either-way j even u v a b x h s =
       (λ (p : (u ≡ b) × (v ≡ a)). even a b ∙ ap₂ j (sym (p .0)) (sym (p .1)) ∙ h)
       (same-edge-ends u v a b s)
 
+-- A test that holds only where the other does adds nothing to it.
 or-idle : (p s : Bool) → (s ≡ true → p ≡ true) → (p || s) ≡ p
 or-idle true s h = refl
 or-idle false true h = sym (h refl)
 or-idle false false h = refl
 
+-- The order of two tests does not matter.
 or-swap : (p q : Bool) → (p || q) ≡ (q || p)
 or-swap true true = refl
 or-swap true false = refl
@@ -39,6 +41,7 @@ or-swap false false = refl
 abbrev apart-below : ℕ → ℕ → ℕ → Bool
 apart-below n x y = ltb x n && (ltb y n && not (eqb x y))
 
+-- What that test says.
 apart-facts : (n x y : ℕ) → apart-below n x y ≡ true → (x < n) × ((y < n) × (x ≡ y → ⊥))
 apart-facts n x y h = (grind (arith, tells), (grind (arith, tells), λ e. grind (arith, tells)))
 
@@ -72,32 +75,39 @@ edges-listed n (p ∷ ps) =
 module _ (pairs : List (ℕ × ℕ)) (last at u v : ℕ) (room : last < length pairs) (within : at < last + 1)
     (here : same-edge (getD pairs at (0, 0) .0) (getD pairs at (0, 0) .1) u v ≡ true)
     (counted : edges-below order-limit (listed (take (last + 1) pairs)) ≡ last + 1) where
-  -- The pairs before and after.
+  -- The pairs before.
   old : List (ℕ × ℕ)
   old = take (last + 1) pairs
 
+  -- The pairs after.
   new : List (ℕ × ℕ)
   new = take last (set pairs at (getD pairs last (0, 0)))
 
+  -- Whether a pair is the edge between a and b.
   abbrev is-edge : (ℕ × ℕ) → ℕ → ℕ → Bool
   is-edge p a b = same-edge (p .0) (p .1) a b
 
+  -- One pair more before than after.
   old-size : length old ≡ last + 1
   unfolding old
   old-size = simp length-take (omega arith)
 
+  -- As many pairs after as the last one's place.
   new-size : length new ≡ last
   unfolding new
   new-size = simp (length-take, length-set) (omega arith)
 
+  -- What stood at a place before.
   old-at : (i : ℕ) → i < last + 1 → getD old i (0, 0) ≡ getD pairs i (0, 0)
   unfolding old
   old-at i h = getD-take (last + 1) pairs i (0, 0) h
 
+  -- After, the same stands at any place but the freed one.
   new-at : (i : ℕ) → i < last → (i ≡ at → ⊥) → getD new i (0, 0) ≡ getD pairs i (0, 0)
   unfolding new
   new-at i h ne = getD-take last (set pairs at (getD pairs last (0, 0))) i (0, 0) h ∙ getD-set-other pairs at i (getD pairs last (0, 0)) (0, 0) ne
 
+  -- At the freed place stands the pair that was last.
   new-here : at < last → getD new at (0, 0) ≡ getD pairs last (0, 0)
   unfolding new
   new-here h = getD-take last (set pairs at (getD pairs last (0, 0))) at (0, 0) h ∙ getD-set-same pairs at (getD pairs last (0, 0)) (0, 0) (omega arith)
@@ -109,7 +119,7 @@ module _ (pairs : List (ℕ × ℕ)) (last at u v : ℕ) (room : last < length p
       turn : (x y : ℕ) → same-edge x y u v ≡ true → same-edge x y a b ≡ same-edge u v a b
       turn x y h = grind (arith, tells)
 
-  -- What the old pairs list, the new ones and that edge list, and the other way round.
+  -- What the old pairs list, the new ones list, or it is that edge.
   forth : (a b : ℕ) → listed old a b ≡ true → (listed new a b || same-edge u v a b) ≡ true
   forth a b h =
       let r = listed-where old a b h in
@@ -127,6 +137,7 @@ module _ (pairs : List (ℕ × ℕ)) (last at u v : ℕ) (room : last < length p
       put : (i : ℕ) → i < last → is-edge (getD new i (0, 0)) a b ≡ true → (listed new a b || same-edge u v a b) ≡ true
       put i h m = or-left (listed new a b) (same-edge u v a b) (listed-at new i a b (omega (arith, new-size)) m)
 
+  -- What the new pairs list, and that edge, the old ones list.
   back : (a b : ℕ) → (listed new a b || same-edge u v a b) ≡ true → listed old a b ≡ true
   back a b h =
       ⊎-elim
@@ -144,6 +155,7 @@ module _ (pairs : List (ℕ × ℕ)) (last at u v : ℕ) (room : last < length p
       was : (i : ℕ) → i < last + 1 → {p : ℕ × ℕ} → getD pairs i (0, 0) ≡ p → is-edge p a b ≡ true → listed old a b ≡ true
       was i l e m = listed-at old i a b (omega (arith, old-size)) (ap (λ (p : ℕ × ℕ). is-edge p a b) (old-at i l ∙ e) ∙ m)
 
+  -- So the old pairs list one edge besides the new.
   old-is : (a b : ℕ) → listed old a b ≡ added (listed new) u v a b
   old-is a b = same-from-decides (listed old a b) (listed new a b || same-edge u v a b) ((λ h. h), (λ h. h)) (back a b, forth a b)
 
@@ -159,6 +171,7 @@ module _ (pairs : List (ℕ × ℕ)) (last at u v : ℕ) (room : last < length p
         (λ off. off)
         (cases-bool (listed new u v))
 
+  -- The new pairs list what the old ones do but for that edge.
   one-cleared : listed (take last (set pairs at (getD pairs last (0, 0)))) ≡ removed (listed (take (last + 1) pairs)) u v
   unfolding old new
   one-cleared =

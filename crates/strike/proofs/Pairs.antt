@@ -41,10 +41,12 @@ listed-where (p ∷ ps) u v h =
       (λ e. let r = listed-where ps u v e in (suc (r .0), (omega (arith, r .1 .0), r .1 .1)))
       (or-cases (same-edge (p .0) (p .1) u v) (listed ps u v) h)
 
+-- Three tests, grouped either way.
 or-assoc : (a b c : Bool) → ((a || b) || c) ≡ (a || (b || c))
 or-assoc true b c = refl
 or-assoc false b c = refl
 
+-- A test that fails adds nothing.
 or-none : (a : Bool) → (a || false) ≡ a
 or-none true = refl
 or-none false = refl

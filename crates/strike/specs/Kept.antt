@@ -20,6 +20,7 @@ use Rattle.strike.specs.declared.Strike.{Strike}
 abbrev pub noted : {S : Type 0} → Strike S → List (ℕ × ℕ)
 noted s = take (s .marks .count) (s .marks .pairs)
 
+-- What the store joins is laid, and what is noted is struck.
 abbrev pub kept : {S : Type 0} → (S → Graph) → (S → ℕ) → Strike S → Model
 kept graph most s = record {
   order = graph (s .store) .order;

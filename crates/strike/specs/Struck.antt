@@ -2,9 +2,10 @@
 --
 --   listed            whether one of the pairs is the edge between u and v
 --   without           a graph without the listed edges
---   without-simple    it is as simple as the graph was
-use mathlib.Core.Path.{_≡_, refl, _∙_, ap, ap₂}
-use mathlib.Core.Bool.{Bool, true, false, not, _&&_, _||_}
+--   listed-swap       what is listed has no direction
+--   without-simple    striking edges out leaves a simple graph simple
+use mathlib.Core.Path.{_≡_, refl, ap₂}
+use mathlib.Core.Bool.{Bool, false, not, _&&_, _||_}
 use mathlib.Core.List.{List, [], _∷_}
 use Prim.Native.Nat.{ℕ}
 use Rattle.std.proofs.shelf.Tests.{and-parts, and-right}

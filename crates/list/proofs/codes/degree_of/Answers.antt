@@ -23,6 +23,6 @@ loop-v-again c =
     let v = c .loop-v .v in
     let bit = λ (b : Bool) (e : c .joins .result ≡ b). ap (λ (x : Bool). cond {A = ℕ} x 1 0) (sym (c .joins .ensures) ∙ e) in
     elim (c .if-joins .came) [
-      then-joins w ↦ omega (arith, w .found-is, c .loop-v .inv, count-more p v, bit true (w .if-joins .taken))
-    | else-joins w ↦ omega (arith, w .found-is, c .loop-v .inv, count-more p v, bit false (w .if-joins .left))
+      | then-joins w ↦ omega (arith, w .found-is, c .loop-v .inv, count-more p v, bit true (w .if-joins .taken))
+      | else-joins w ↦ omega (arith, w .found-is, c .loop-v .inv, count-more p v, bit false (w .if-joins .left))
     ]

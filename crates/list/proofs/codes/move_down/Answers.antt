@@ -13,7 +13,8 @@ loop-i-again c =
     let i = c .loop-i .i in
     let x = getD ys (i + 1) 0 in
     let inv = c .loop-i .inv in
-    let room : i < length ys = omega arith in
-    (λ k h. let ne : k ≢ i = omega arith in getD-set-other ys i k x 0 ne ∙ inv .0 k h,
-     λ k h m. ⊎-elim (λ q. rw q (getD-set-same ys i x 0 room ∙ inv .2 (i + 1) (omega arith))) (λ q. getD-set-other ys i k x 0 q ∙ inv .1 k h (omega (arith, q))) (cases-eq k i),
-     λ k h. let ne : k ≢ i = omega arith in getD-set-other ys i k x 0 ne ∙ inv .2 k (omega arith))
+    let room : i < length ys = omega arith in (
+      λ k h. let ne : k ≢ i = omega arith in getD-set-other ys i k x 0 ne ∙ inv .0 k h,
+      λ k h m. ⊎-elim (λ q. rw q (getD-set-same ys i x 0 room ∙ inv .2 (i + 1) (omega arith))) (λ q. getD-set-other ys i k x 0 q ∙ inv .1 k h (omega (arith, q))) (cases-eq k i),
+      λ k h. let ne : k ≢ i = omega arith in getD-set-other ys i k x 0 ne ∙ inv .2 k (omega arith),
+    )

@@ -11,5 +11,6 @@ Inv-loop-v g l =
     (l .self ≡ l .entry .self)
     × (let h = without (g .S·Map .graph (l .self .store)) (noted (l .self)) in next h (l .u) (l .w) ≡ next h (l .u) (l .from))
 
+-- The store has fewer vertices left from turn to turn.
 abbrev pub μ-loop-v : given.MeasureT-loop-v
 μ-loop-v g l = g .S·Map .graph (l .self .store) .order - l .from
