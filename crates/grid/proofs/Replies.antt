@@ -1,18 +1,17 @@
--- What the table of refusals says of a make, a join and a part, case by case.
-use mathlib.Core.Path.{_≡_, refl, _∙_, ap}
-use mathlib.Core.Bool.{Bool, true, false, cond, not, _&&_}
-use Prim.Native.Nat.{ℕ, _-_, _*_, _<_, _≤_}
+-- What the table of refusals says of a join and a part, case by case.
+use mathlib.Core.Path.{_≡_, _∙_, ap}
+use mathlib.Core.Bool.{true, false}
+use Prim.Native.Nat.{ℕ, _-_, _*_, _<_}
 use native.Mathlib.Nat.{mul-sub, mul-one}
 use native.Mathlib.Omega.{arith}
-use lib.Dec.{leb}
-use Rattle.std.proofs.shelf.Tests.{lt-ltb, ne-eqb, lt-leb, leb-true, and-parts}
+use Rattle.std.proofs.shelf.Tests.{lt-ltb, ne-eqb, lt-leb}
 use Rattle.std.specs.declared.result.Result.the-variants.{Ok, Err}
 use Rattle.graph.specs.Graph.{Graph, Simple, edges}
 use Rattle.graph.proofs.Edges.{edges-room}
-use Rattle.model.specs.Model.{Lent, unmade, bare, make-limit}
-use Rattle.model.specs.Table.{Reply, reply, reply-on}
-use Rattle.model.specs.declared.call.Call.the-variants.{Make, Join, Part}
-use Rattle.model.specs.declared.refusal.Refusal.the-variants.{BadOrder, ShortMemory, IsJoined, NotJoined}
+use Rattle.model.specs.Model.{bare}
+use Rattle.model.specs.Table.{reply-on}
+use Rattle.model.specs.declared.call.Call.the-variants.{Join, Part}
+use Rattle.model.specs.declared.refusal.Refusal.the-variants.{IsJoined, NotJoined}
 use Rattle.grid.specs.Rows.{pairs}
 
 -- Two different vertices.
@@ -40,16 +39,3 @@ pairs-free g s u v hu hv ne off =
     let free = edges-room n (g .joined) u v hu hv ne off (s .symmetric v u ∙ off) in
     let e : n * (n - 1) ≡ n * n - n = mul-sub n n 1 ∙ ap (λ (x : ℕ). n * n - x) (mul-one n) in
     omega (arith, free, e)
-
--- What an accepted make says.
-pub make-accepted : (lent : Lent) (n : ℕ) → reply lent unmade (Make n) ≡ Ok tt → (1 ≤ n) × (n ≤ make-limit) × (lent .enough n ≡ true)
-make-accepted lent n h =
-    let p = passed (leb 1 n && leb n make-limit) (lent .enough n) h in
-    let q = and-parts (leb 1 n) (leb n make-limit) (p .0) in
-    (leb-true 1 n (q .0), leb-true n make-limit (q .1), p .1)
-  where
-    -- Only two tests that pass lead to acceptance.
-    passed : (a b : Bool) → cond {A = Reply} (not a) (Err BadOrder) (cond {A = Reply} (not b) (Err ShortMemory) (Ok tt)) ≡ Ok tt → (a ≡ true) × (b ≡ true)
-    passed true true h = (refl, refl)
-    passed true false h = let z : _≡_ {A = ℕ} 0 1 = cc in let y : ⊥ = omega arith in absurd y
-    passed false b h = let z : _≡_ {A = ℕ} 0 1 = cc in let y : ⊥ = omega arith in absurd y

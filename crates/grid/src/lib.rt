@@ -19,13 +19,11 @@ ghost use Rattle.store.specs.Change.{after-join, after-part};
 ghost use Rattle.grid.specs.Rows.{grid, wiped, pairs, lent-words};
 use model::Refusal;
 use model::Vertex;
+use model::is_bad_order;
 use store::Editable;
 use store::Map;
 use words::Cells;
 use words::wipe_rows;
-
-// The most vertices that a make accepts.
-const MAKE_LIMIT: u16 = 200;
 
 // A map of n vertices over the first 4 n of the lent words. The ghost facts say that what the
 // words mean is a simple graph; the bits from n up in a row are clear by the last of them.
@@ -103,7 +101,7 @@ pub impl<'a> Editable for Grid<'a> as GridEditable {
 
     // Whether the memory holds the rows of n vertices.
     fn room(n: u16, memory: &&'a mut [u64]) -> Result<(), Refusal> {
-        if n < 1 || n > MAKE_LIMIT {
+        if is_bad_order(n) {
             return Err(Refusal::BadOrder);
         }
         if memory.len() < 4 * n as usize {

@@ -13,6 +13,7 @@ use crate::List;
 use crate::questions::ListMap;
 use model::Refusal;
 use model::Vertex;
+use model::is_bad_order;
 use store::Editable;
 
 pub impl<'a> Editable for List<'a> as ListEditable {
@@ -24,7 +25,7 @@ pub impl<'a> Editable for List<'a> as ListEditable {
 
     // Whether n is an order that a make accepts; any number of cells is enough.
     fn room(n: u16, memory: &&'a mut [u16]) -> Result<(), Refusal> {
-        if n < 1 || n > 200 {
+        if is_bad_order(n) {
             return Err(Refusal::BadOrder);
         }
         Ok(())

@@ -6,14 +6,14 @@ use mathlib.Core.Logic.{_⊎_, inl, inr, ⊎-elim}
 use Prim.Native.Nat.{ℕ, _<_, _≤_}
 use native.Mathlib.Omega.{arith}
 use lib.Dec.{eqb, ltb, leb}
-use Rattle.std.proofs.shelf.Tests.{cases-bool, and-parts, ltb-true, leb-false, eqb-false, lt-ltb, ne-eqb, lt-leb, true≢false}
+use Rattle.std.proofs.shelf.Tests.{cases-bool, and-parts, leb-true, ltb-true, leb-false, eqb-false, lt-ltb, ne-eqb, lt-leb, true≢false}
 use Rattle.std.specs.declared.result.Result.the-variants.{Ok, Err}
 use Rattle.graph.specs.Graph.{Graph, edges}
-use Rattle.model.specs.declared.call.Call.the-variants.{Join, Part}
+use Rattle.model.specs.declared.call.Call.the-variants.{Make, Join, Part}
 use Rattle.model.specs.declared.refusal.Refusal.{Refusal}
 use Rattle.model.specs.declared.refusal.Refusal.the-variants.{BadOrder, ShortMemory, NoVertex, SameVertex, IsStruck, IsJoined, NotJoined, NotStruck, NoRoom, OneVertex, Adjacent, BadDigits, BadFrame, OutOfTurn}
 use Rattle.model.specs.Numbers.{refusal-number}
-use Rattle.model.specs.Model.{bare, made}
+use Rattle.model.specs.Model.{Lent, bare, unmade, made, make-limit}
 use Rattle.model.specs.Table.{Reply, nothing, fits, checking-order, first-fitting, reply, reply-on}
 use Rattle.model.specs.Meaning.{Smallest-first, Join-accepted, Part-accepted, Exactly-when}
 
@@ -117,3 +117,16 @@ exactly-when g capacity u v = (join-only, join-if, part-only, part-if)
         (ltb-true u (g .order) (b .0), ltb-true v (g .order) (b .1), eqb-false u v (none SameVertex), not-true (g .joined u v) (none NotJoined))
     part-if : Part-accepted g u v → reply-on (bare g capacity) (Part u v) ≡ Ok tt
     part-if h = rw (lt-ltb u (g .order) (h .0), lt-ltb v (g .order) (h .1), ne-eqb u v (h .2), h .3)
+
+-- What an accepted make says.
+pub make-accepted : (lent : Lent) (n : ℕ) → reply lent unmade (Make n) ≡ Ok tt → (1 ≤ n) × (n ≤ make-limit) × (lent .enough n ≡ true)
+make-accepted lent n h =
+    let p = passed (leb 1 n && leb n make-limit) (lent .enough n) h in
+    let q = and-parts (leb 1 n) (leb n make-limit) (p .0) in
+    (leb-true 1 n (q .0), leb-true n make-limit (q .1), p .1)
+  where
+    -- Only two tests that pass lead to acceptance.
+    passed : (a b : Bool) → cond {A = Reply} (not a) (Err BadOrder) (cond {A = Reply} (not b) (Err ShortMemory) (Ok tt)) ≡ Ok tt → (a ≡ true) × (b ≡ true)
+    passed true true h = (refl, refl)
+    passed true false h = let z : _≡_ {A = ℕ} 0 1 = cc in let y : ⊥ = omega arith in absurd y
+    passed false b h = let z : _≡_ {A = ℕ} 0 1 = cc in let y : ⊥ = omega arith in absurd y

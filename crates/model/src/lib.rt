@@ -10,6 +10,7 @@ pub use call::AnswerPartialEq;
 pub use call::Call;
 pub use call::CallDebug;
 pub use call::Vertex;
+pub use call::is_bad_order;
 pub use refusal::Refusal;
 pub use refusal::RefusalDebug;
 pub use refusal::RefusalPartialEq;

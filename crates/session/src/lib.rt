@@ -4,8 +4,8 @@ ghost use mathlib.Core.Path.{_≡_};
 ghost use mathlib.Core.Bool.{false, cond};
 ghost use mathlib.Core.List.{List, [], _∷_, _++_};
 ghost use denote.Ref.{now};
-ghost use Rattle.std.specs.Results.{isOk};
-ghost use Rattle.std.specs.declared.result.Result.the-variants.{Ok};
+ghost use Rattle.std.specs.Results.{isOk, Cases};
+ghost use Rattle.std.specs.declared.result.Result.the-variants.{Ok, Err};
 ghost use Rattle.model.specs.Model.{Lent, unmade, made, blank, in-force};
 ghost use Rattle.model.specs.Table.{reply, bad-order};
 ghost use Rattle.model.specs.Law.{Right, after, Event, event, Sound};
@@ -18,13 +18,11 @@ use model::Answer;
 use model::Call;
 use model::Refusal;
 use model::Vertex;
+use model::is_bad_order;
 use store::Editable;
 use store::Map;
 use strike::Strike;
 use strike::StrikeMap;
-
-// The most vertices that a make accepts.
-const MAKE_LIMIT: u16 = 200;
 
 // The map of a session: a store, and over it the edges that are struck.
 #[derive(Drop)]
@@ -64,6 +62,15 @@ impl<S: Editable> Planner<S> {
         Planner { layer: Strike::over(S::make(n, memory)) }
     }
 
+    // A planner of a map of n vertices with no edge, or why there is none. The memory of a
+    // refused make is as it was.
+    pub fn open(n: u16, memory: S::Memory) -> Result<Planner<S>, Refusal>
+        ensures { λ r. ⌜ Cases r (λ p. (reply (S·Editable .lent memory) unmade (Make n) ≡ Ok tt) × (model-of (S·Map .graph) (S·Editable .most) p ≡ blank n (S·Editable .lent memory .capacity n))) (λ e. reply (S·Editable .lent memory) unmade (Make n) ≡ Err e) ⌝ }
+    {
+        S::room(n, &memory)?;
+        Ok(Planner::make(n, memory))
+    }
+
     // Performs a call: an edit changes the map, a make is out of turn.
     fn act(&mut self, call: Call) -> Result<Answer, Refusal>
         ensures right { λ r. ⌜ ((lent : Lent) → Right lent (made (model-of (S·Map .graph) (S·Editable .most) (now (self .entry)))) call r) ⌝ }
@@ -96,7 +103,7 @@ impl<S: Editable> Planner<S> {
 fn later_make(n: u16) -> Refusal
     ensures { λ r. ⌜ r ≡ cond (bad-order n) BadOrder OutOfTurn ⌝ }
 {
-    if n < 1 || n > MAKE_LIMIT {
+    if is_bad_order(n) {
         return Refusal::BadOrder;
     }
     Refusal::OutOfTurn

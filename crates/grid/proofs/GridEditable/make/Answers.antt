@@ -4,7 +4,7 @@ use native.Mathlib.Omega.{arith}
 use lib.ListN.{length}
 use Rattle.std.proofs.shelf.Tests.{leb-true}
 use Rattle.grid.specs.Rows.{grid, pairs, lent-words}
-use Rattle.grid.proofs.Replies.{make-accepted}
+use Rattle.model.proofs.Replies.{make-accepted}
 use Rattle.grid.proofs.Wipes.{wiped-empty}
 use Rattle.grid.proofs.GridEditable.make.Needs as need
 
