@@ -44,13 +44,15 @@ pub fn call_of<B: Bytes>(frame: &Frame<B>) -> Result<Call, FrameFault>
     }
     let u = frame.payload.at(0) as Vertex;
     let v = frame.payload.at(1) as Vertex;
-    Ok(match kind {
-        Kind::Make => Call::Make(u),
-        Kind::Join => Call::Join(u, v),
-        Kind::Part => Call::Part(u, v),
-        Kind::Strike => Call::Strike(u, v),
-        Kind::Lift => Call::Lift(u, v),
-    })
+    Ok(
+        match kind {
+            Kind::Make => Call::Make(u),
+            Kind::Join => Call::Join(u, v),
+            Kind::Part => Call::Part(u, v),
+            Kind::Strike => Call::Strike(u, v),
+            Kind::Lift => Call::Lift(u, v),
+        },
+    )
 }
 
 // The frame in a line of hexadecimal text. Its payload is the very stretch of the line.
@@ -58,8 +60,19 @@ pub fn read_frame<'a>(line: &'a [u8]) -> Result<Frame<Hex<'a>>, FrameFault>
     ensures { λ r. ⌜ view r ≡ frame-read (now (line .entry)) ⌝ }
 {
     check_digits(line)?;
-    let kind = frame_kind(&Hex { text: line, place: 0 })?;
-    Ok(Frame { kind, payload: Hex { text: &line[2..], place: 2 } })
+    let kind = frame_kind(
+        &Hex {
+            text: line,
+            place: 0,
+        },
+    )?;
+    Ok(Frame {
+        kind,
+        payload: Hex {
+            text: &line[2..],
+            place: 2,
+        },
+    })
 }
 
 // The call that a line asks for.

@@ -58,7 +58,11 @@ fn fault_bytes(line: usize, fault: SessionFault) -> [u8; 7]
 }
 
 // Writes the bytes of the reply to a line of input.
-fn write_body(out: &mut Vec<u8>, line: usize, reply: Result<Answer, SessionFault>) -> Result<(), AllocError>
+fn write_body(
+    out: &mut Vec<u8>,
+    line: usize,
+    reply: Result<Answer, SessionFault>,
+) -> Result<(), AllocError>
     ensures { λ r. ⌜ made r (λ _. vec-items (now (out .exit)) ≡ vec-items (now (out .entry)) ++ hex-text (reply-bytes line reply)) ⌝ }
 {
     match reply {
@@ -68,7 +72,11 @@ fn write_body(out: &mut Vec<u8>, line: usize, reply: Result<Answer, SessionFault
 }
 
 // Writes the reply to a line of input, with its line end.
-pub fn write_reply(out: &mut Vec<u8>, line: usize, reply: Result<Answer, SessionFault>) -> Result<(), AllocError>
+pub fn write_reply(
+    out: &mut Vec<u8>,
+    line: usize,
+    reply: Result<Answer, SessionFault>,
+) -> Result<(), AllocError>
     ensures { λ r. ⌜ made r (λ _. vec-items (now (out .exit)) ≡ vec-items (now (out .entry)) ++ reply-text line reply) ⌝ }
 {
     write_body(out, line, reply)?;

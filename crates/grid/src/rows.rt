@@ -9,7 +9,7 @@ ghost use Rattle.grid.specs.Rows.{bit, has, set-bits};
 use model::Vertex;
 
 // Whether bit v of the row is set.
-pub fn row_has(row: &[u64], v: Vertex) -> bool
+pub(crate) fn row_has(row: &[u64], v: Vertex) -> bool
     requires { ⌜ length (now row) ≡ 4 ⌝ ∗ ⌜ v < 256 ⌝ }
     ensures { λ r. ⌜ r ≡ has (now (row .entry)) 0 v ⌝ }
 {
@@ -25,7 +25,7 @@ fn word_count(word: u64) -> u16
 }
 
 // How many bits of the row are set.
-pub fn row_count(row: &[u64]) -> u16
+pub(crate) fn row_count(row: &[u64]) -> u16
     requires { ⌜ length (now row) ≡ 4 ⌝ }
     ensures { λ r. ⌜ r ≡ set-bits (now (row .entry)) ⌝ }
 {
@@ -46,7 +46,7 @@ fn word_next(word: u64, k: u16) -> Option<u16>
 }
 
 // The lowest bit of the row that is set and not below w.
-pub fn row_next(row: &[u64], w: Vertex) -> Option<Vertex>
+pub(crate) fn row_next(row: &[u64], w: Vertex) -> Option<Vertex>
     requires { ⌜ length (now row) ≡ 4 ⌝ }
     ensures { λ r. ⌜ r ≡ first (has (now (row .entry)) 0) w (256 - w) ⌝ }
 {
@@ -61,7 +61,7 @@ pub fn row_next(row: &[u64], w: Vertex) -> Option<Vertex>
 }
 
 // Sets bit v of the row.
-pub fn row_put(row: &mut [u64], v: Vertex)
+pub(crate) fn row_put(row: &mut [u64], v: Vertex)
     requires { ⌜ length (now row) ≡ 4 ⌝ ∗ ⌜ v < 256 ⌝ }
     ensures { λ _. ⌜ ((k : ℕ) → k < 256 → has (now (row .exit)) 0 k ≡ (has (now (row .entry)) 0 k || eqb k v)) ⌝ }
 {
@@ -70,7 +70,7 @@ pub fn row_put(row: &mut [u64], v: Vertex)
 }
 
 // Clears bit v of the row, which is set.
-pub fn row_take(row: &mut [u64], v: Vertex)
+pub(crate) fn row_take(row: &mut [u64], v: Vertex)
     requires { ⌜ length (now row) ≡ 4 ⌝ ∗ ⌜ v < 256 ⌝ ∗ ⌜ has (now row) 0 v ≡ true ⌝ }
     ensures { λ _. ⌜ ((k : ℕ) → k < 256 → has (now (row .exit)) 0 k ≡ (has (now (row .entry)) 0 k && not (eqb k v))) ⌝ }
 {

@@ -96,7 +96,7 @@ fn wipe(words: &mut [u64])
 }
 
 // Wipes the rows of n vertices.
-pub fn wipe_rows(words: &mut [u64], n: u16)
+pub(crate) fn wipe_rows(words: &mut [u64], n: u16)
     requires { ⌜ 4 * n ≤ length (now words) ⌝ }
     ensures { λ _. ⌜ now (words .exit) ≡ wiped n (now (words .entry)) ⌝ }
 {
@@ -113,7 +113,7 @@ pub struct Cells<'a> {
 
 impl<'a> Cells<'a> {
     // Whether bit v of u's row is set.
-    pub fn has(&mut self, u: Vertex, v: Vertex) -> bool
+    pub(crate) fn has(&mut self, u: Vertex, v: Vertex) -> bool
         requires { ⌜ 4 * u + 4 ≤ length (now (now self .words)) ⌝ ∗ ⌜ v < 256 ⌝ }
         ensures value { λ r. ⌜ r ≡ has (now (now (self .entry) .words)) (4 * u) v ⌝ }
         ensures same { λ _. ⌜ now (self .exit) ≡ now (self .entry) ⌝ }
@@ -122,7 +122,7 @@ impl<'a> Cells<'a> {
     }
 
     // How many bits of u's row are set.
-    pub fn count(&mut self, u: Vertex) -> u16
+    pub(crate) fn count(&mut self, u: Vertex) -> u16
         requires { ⌜ 4 * u + 4 ≤ length (now (now self .words)) ⌝ }
         ensures value { λ r. ⌜ r ≡ count (has (now (now (self .entry) .words)) (4 * u)) 256 ⌝ }
         ensures same { λ _. ⌜ now (self .exit) ≡ now (self .entry) ⌝ }
@@ -131,7 +131,7 @@ impl<'a> Cells<'a> {
     }
 
     // The lowest bit of u's row that is set and not below w.
-    pub fn next(&mut self, u: Vertex, w: Vertex) -> Option<Vertex>
+    pub(crate) fn next(&mut self, u: Vertex, w: Vertex) -> Option<Vertex>
         requires { ⌜ 4 * u + 4 ≤ length (now (now self .words)) ⌝ }
         ensures value { λ r. ⌜ r ≡ first (has (now (now (self .entry) .words)) (4 * u)) w (256 - w) ⌝ }
         ensures same { λ _. ⌜ now (self .exit) ≡ now (self .entry) ⌝ }
@@ -140,7 +140,7 @@ impl<'a> Cells<'a> {
     }
 
     // Sets the two bits of the edge between u and v.
-    pub fn put(&mut self, u: Vertex, v: Vertex)
+    pub(crate) fn put(&mut self, u: Vertex, v: Vertex)
         requires { ⌜ 4 * u + 4 ≤ length (now (now self .words)) ⌝ ∗ ⌜ 4 * v + 4 ≤ length (now (now self .words)) ⌝ ∗ ⌜ u < 256 ⌝ ∗ ⌜ v < 256 ⌝ }
         ensures bits { λ _. ⌜ ((a b : ℕ) → b < 256 → has (now (now (self .exit) .words)) (4 * a) b ≡ (has (now (now (self .entry) .words)) (4 * a) b || same-edge u v a b)) ⌝ }
         ensures rest { λ _. ⌜ ((m : ℕ) → 4 * u + 4 ≤ m → 4 * v + 4 ≤ m → drop m (now (now (self .exit) .words)) ≡ drop m (now (now (self .entry) .words))) ⌝ }
@@ -150,7 +150,7 @@ impl<'a> Cells<'a> {
     }
 
     // Clears the two bits of the edge between u and v, which are set.
-    pub fn take(&mut self, u: Vertex, v: Vertex)
+    pub(crate) fn take(&mut self, u: Vertex, v: Vertex)
         requires bounds { ⌜ 4 * u + 4 ≤ length (now (now self .words)) ⌝ ∗ ⌜ 4 * v + 4 ≤ length (now (now self .words)) ⌝ ∗ ⌜ u < 256 ⌝ ∗ ⌜ v < 256 ⌝ }
         requires apart { ⌜ (u ≡ v → ⊥) ⌝ }
         requires there { ⌜ has (now (now self .words)) (4 * u) v ≡ true ⌝ ∗ ⌜ has (now (now self .words)) (4 * v) u ≡ true ⌝ }

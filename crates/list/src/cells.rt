@@ -16,14 +16,14 @@ pub struct Cells<'a> {
 
 impl<'a> Cells<'a> {
     // How many cells there are.
-    pub fn len(&self) -> usize
+    pub(crate) fn len(&self) -> usize
         ensures { λ r. ⌜ r ≡ length (now (now (self .entry) .codes)) ⌝ }
     {
         self.codes.len()
     }
 
     // The first place whose cell is not below c.
-    pub fn seek(&self, count: usize, c: u16) -> usize
+    pub(crate) fn seek(&self, count: usize, c: u16) -> usize
         requires fits { ⌜ count ≤ length (now (now self .codes)) ⌝ }
         requires rising { ⌜ Rising count (now (now self .codes)) ⌝ }
         ensures value { λ r. ⌜ r ≡ place count (now (now (self .entry) .codes)) c ⌝ }
@@ -35,7 +35,7 @@ impl<'a> Cells<'a> {
     }
 
     // Whether the cells join u and v, as a map of n vertices.
-    pub fn joins(&self, n: u16, count: usize, u: Vertex, v: Vertex) -> bool
+    pub(crate) fn joins(&self, n: u16, count: usize, u: Vertex, v: Vertex) -> bool
         requires small { ⌜ n ≤ order-limit ⌝ }
         requires fits { ⌜ count ≤ length (now (now self .codes)) ⌝ }
         requires rising { ⌜ Rising count (now (now self .codes)) ⌝ }
@@ -45,7 +45,7 @@ impl<'a> Cells<'a> {
     }
 
     // The number of neighbours of u.
-    pub fn degree(&self, n: u16, count: usize, u: Vertex) -> u16
+    pub(crate) fn degree(&self, n: u16, count: usize, u: Vertex) -> u16
         requires small { ⌜ n ≤ order-limit ⌝ }
         requires fits { ⌜ count ≤ length (now (now self .codes)) ⌝ }
         requires rising { ⌜ Rising count (now (now self .codes)) ⌝ }
@@ -55,7 +55,7 @@ impl<'a> Cells<'a> {
     }
 
     // The lowest neighbour of u that is w or more.
-    pub fn next(&self, n: u16, count: usize, u: Vertex, w: Vertex) -> Option<Vertex>
+    pub(crate) fn next(&self, n: u16, count: usize, u: Vertex, w: Vertex) -> Option<Vertex>
         requires small { ⌜ n ≤ order-limit ⌝ }
         requires fits { ⌜ count ≤ length (now (now self .codes)) ⌝ }
         requires rising { ⌜ Rising count (now (now self .codes)) ⌝ }
@@ -65,7 +65,7 @@ impl<'a> Cells<'a> {
     }
 
     // Puts c in at a place among the cells in use.
-    pub fn insert(&mut self, count: usize, at: usize, c: u16)
+    pub(crate) fn insert(&mut self, count: usize, at: usize, c: u16)
         requires room { ⌜ count < length (now (now self .codes)) ⌝ }
         requires within { ⌜ at ≤ count ⌝ }
         ensures { λ _. ⌜ now (now (self .exit) .codes) ≡ inserted-cells (now (now (self .entry) .codes)) count at c ⌝ }
@@ -74,7 +74,7 @@ impl<'a> Cells<'a> {
     }
 
     // Takes out what stands at a place among the cells in use.
-    pub fn remove(&mut self, count: usize, at: usize)
+    pub(crate) fn remove(&mut self, count: usize, at: usize)
         requires fits { ⌜ count ≤ length (now (now self .codes)) ⌝ }
         requires within { ⌜ at < count ⌝ }
         ensures { λ _. ⌜ now (now (self .exit) .codes) ≡ removed-cells (now (now (self .entry) .codes)) count at ⌝ }

@@ -11,7 +11,7 @@ use model::Vertex;
 const FREE: u16 = 65535;
 
 // The number of the edge between u and v.
-pub fn edge_code(u: Vertex, v: Vertex) -> u16
+pub(crate) fn edge_code(u: Vertex, v: Vertex) -> u16
     requires { ⌜ u < order-limit ⌝ ∗ ⌜ v < order-limit ⌝ }
     ensures { λ r. ⌜ r ≡ code u v ⌝ }
 {
@@ -19,7 +19,7 @@ pub fn edge_code(u: Vertex, v: Vertex) -> u16
 }
 
 // The first place whose cell is not below c, by halving the part where it can be.
-pub fn seek(codes: &[u16], count: usize, c: u16) -> usize
+pub(crate) fn seek(codes: &[u16], count: usize, c: u16) -> usize
     requires fits { ⌜ count ≤ length (now codes) ⌝ }
     requires rising { ⌜ Rising count (now codes) ⌝ }
     ensures value { λ r. ⌜ r ≡ place count (now (codes .entry)) c ⌝ }
@@ -49,7 +49,7 @@ fn holds_at(codes: &[u16], count: usize, at: usize, c: u16) -> bool
 }
 
 // Whether the cells join u and v, as a map of n vertices.
-pub fn joins(n: u16, count: usize, codes: &[u16], u: Vertex, v: Vertex) -> bool
+pub(crate) fn joins(n: u16, count: usize, codes: &[u16], u: Vertex, v: Vertex) -> bool
     requires small { ⌜ n ≤ order-limit ⌝ }
     requires fits { ⌜ count ≤ length (now codes) ⌝ }
     requires rising { ⌜ Rising count (now codes) ⌝ }
@@ -64,7 +64,7 @@ pub fn joins(n: u16, count: usize, codes: &[u16], u: Vertex, v: Vertex) -> bool
 }
 
 // The number of neighbours of u.
-pub fn degree_of(n: u16, count: usize, codes: &[u16], u: Vertex) -> u16
+pub(crate) fn degree_of(n: u16, count: usize, codes: &[u16], u: Vertex) -> u16
     requires small { ⌜ n ≤ order-limit ⌝ }
     requires fits { ⌜ count ≤ length (now codes) ⌝ }
     requires rising { ⌜ Rising count (now codes) ⌝ }
@@ -80,7 +80,7 @@ pub fn degree_of(n: u16, count: usize, codes: &[u16], u: Vertex) -> u16
 }
 
 // The lowest neighbour of u that is w or more.
-pub fn next_of(n: u16, count: usize, codes: &[u16], u: Vertex, w: Vertex) -> Option<Vertex>
+pub(crate) fn next_of(n: u16, count: usize, codes: &[u16], u: Vertex, w: Vertex) -> Option<Vertex>
     requires small { ⌜ n ≤ order-limit ⌝ }
     requires fits { ⌜ count ≤ length (now codes) ⌝ }
     requires rising { ⌜ Rising count (now codes) ⌝ }
@@ -131,7 +131,7 @@ fn mark_free(codes: &mut [u16], at: usize)
 }
 
 // Puts c in at a place among the cells in use, and moves those from there on up by one.
-pub fn insert(codes: &mut [u16], count: usize, at: usize, c: u16)
+pub(crate) fn insert(codes: &mut [u16], count: usize, at: usize, c: u16)
     requires room { ⌜ count < length (now codes) ⌝ }
     requires within { ⌜ at ≤ count ⌝ }
     ensures { λ _. ⌜ now (codes .exit) ≡ inserted-cells (now (codes .entry)) count at c ⌝ }
@@ -142,7 +142,7 @@ pub fn insert(codes: &mut [u16], count: usize, at: usize, c: u16)
 
 // Takes out what stands at a place among the cells in use, moves those behind it down by
 // one, and marks the cell that this frees.
-pub fn remove(codes: &mut [u16], count: usize, at: usize)
+pub(crate) fn remove(codes: &mut [u16], count: usize, at: usize)
     requires fits { ⌜ count ≤ length (now codes) ⌝ }
     requires within { ⌜ at < count ⌝ }
     ensures { λ _. ⌜ now (codes .exit) ≡ removed-cells (now (codes .entry)) count at ⌝ }

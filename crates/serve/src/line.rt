@@ -25,7 +25,7 @@ use store::Editable;
 use store::Map;
 
 // Where the line from a place on ends: at its line end, or at the end of the input.
-pub fn line_end(input: &[u8], from: usize) -> usize
+pub(crate) fn line_end(input: &[u8], from: usize) -> usize
     requires { ⌜ from ≤ length (now input) ⌝ }
     ensures low { λ r. ⌜ from ≤ r ⌝ }
     ensures high { λ r. ⌜ r ≤ length (now (input .entry)) ⌝ }
@@ -42,7 +42,7 @@ pub fn line_end(input: &[u8], from: usize) -> usize
 
 // The reply to a line before an accepted make: the order that a make asks for, where it can
 // be made over the memory.
-pub fn open<S: Editable>(memory: &S::Memory, line: &[u8]) -> Result<u16, SessionFault>
+pub(crate) fn open<S: Editable>(memory: &S::Memory, line: &[u8]) -> Result<u16, SessionFault>
     ensures { λ r. ⌜ Cases r (λ n. (request (now (line .entry)) ≡ Ok (Make n)) × (reply (S·Editable .lent (now (memory .entry))) unmade (Make n) ≡ Ok tt)) (λ f. Right-line (S·Editable .lent (now (memory .entry))) unmade (now (line .entry)) (Err f) × (after-line (S·Editable .lent (now (memory .entry))) unmade (now (line .entry)) ≡ unmade)) ⌝ }
 {
     let Call::Make(n) = read_call(line)? else {
@@ -53,7 +53,7 @@ pub fn open<S: Editable>(memory: &S::Memory, line: &[u8]) -> Result<u16, Session
 }
 
 // The reply to a line on a map that stands.
-pub fn answer<S: Editable>(planner: &mut Planner<S>, line: &[u8]) -> Result<Answer, SessionFault>
+pub(crate) fn answer<S: Editable>(planner: &mut Planner<S>, line: &[u8]) -> Result<Answer, SessionFault>
     ensures right { λ r. ⌜ ((lent : Lent) → Right-line lent (made (model-of (S·Map .graph) (S·Editable .most) (now (planner .entry)))) (now (line .entry)) r) ⌝ }
     ensures after { λ _. ⌜ ((lent : Lent) → made (model-of (S·Map .graph) (S·Editable .most) (now (planner .exit))) ≡ after-line lent (made (model-of (S·Map .graph) (S·Editable .most) (now (planner .entry)))) (now (line .entry))) ⌝ }
 {

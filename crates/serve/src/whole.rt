@@ -39,7 +39,11 @@ struct Opening {
 }
 
 // Answers lines until a make is accepted.
-fn await_make<S: Editable>(memory: &S::Memory, input: &[u8], out: &mut Vec<u8>) -> Result<Option<Opening>, AllocError>
+fn await_make<S: Editable>(
+    memory: &S::Memory,
+    input: &[u8],
+    out: &mut Vec<u8>,
+) -> Result<Option<Opening>, AllocError>
     requires { ⌜ length (now input) ≤ 32768 ⌝ ∗ ⌜ vec-items (now out) ≡ [] ⌝ }
     ensures { λ r. ⌜ wrote r (λ o. BySome o (Session-text (S·Editable .lent (now (memory .entry))) (now (input .entry)) (vec-items (now (out .exit)))) (λ p. (p .line ≤ p .at) × (p .at ≤ 32769) × (reply (S·Editable .lent (now (memory .entry))) unmade (Make (p .order)) ≡ Ok tt) × Rests (S·Editable .lent (now (memory .entry))) (now (input .entry)) (made (blank (p .order) (S·Editable .lent (now (memory .entry)) .capacity (p .order)))) (p .at) (p .line) (vec-items (now (out .exit))))) ⌝ }
 {
@@ -62,7 +66,12 @@ fn await_make<S: Editable>(memory: &S::Memory, input: &[u8], out: &mut Vec<u8>) 
 }
 
 // Answers the lines from a place on, on a map that stands.
-fn play<S: Editable>(planner: &mut Planner<S>, input: &[u8], start: Opening, out: &mut Vec<u8>) -> Result<(), AllocError>
+fn play<S: Editable>(
+    planner: &mut Planner<S>,
+    input: &[u8],
+    start: Opening,
+    out: &mut Vec<u8>,
+) -> Result<(), AllocError>
     requires { ⌜ length (now input) ≤ 32768 ⌝ ∗ ⌜ start .line ≤ start .at ⌝ ∗ ⌜ start .at ≤ 32769 ⌝ }
     ensures { λ r. ⌜ wrote r (λ _. (lent : Lent) → Rests lent (now (input .entry)) (made (model-of (S·Map .graph) (S·Editable .most) (now (planner .entry)))) (start .at) (start .line) (vec-items (now (out .entry))) → Session-text lent (now (input .entry)) (vec-items (now (out .exit)))) ⌝ }
 {
@@ -79,7 +88,11 @@ fn play<S: Editable>(planner: &mut Planner<S>, input: &[u8], start: Opening, out
 }
 
 // Serves a whole input over memory for a store, and gives the text of the replies.
-pub fn serve<S: Editable>(heap: Global, memory: S::Memory, input: &[u8]) -> Result<Vec<u8>, AllocError>
+pub fn serve<S: Editable>(
+    heap: Global,
+    memory: S::Memory,
+    input: &[u8],
+) -> Result<Vec<u8>, AllocError>
     ensures { λ r. ⌜ wrote r (λ out. Served (S·Editable .lent memory) (now (input .entry)) (vec-items out)) ⌝ }
 {
     let mut out = Vec::new(heap);

@@ -59,7 +59,9 @@ impl<S: Editable> Planner<S> {
         requires { ⌜ reply (S·Editable .lent memory) unmade (Make n) ≡ Ok tt ⌝ }
         ensures { λ r. ⌜ model-of (S·Map .graph) (S·Editable .most) r ≡ blank n (S·Editable .lent memory .capacity n) ⌝ }
     {
-        Planner { layer: Strike::over(S::make(n, memory)) }
+        Planner {
+            layer: Strike::over(S::make(n, memory)),
+        }
     }
 
     // A planner of a map of n vertices with no edge, or why there is none. The memory of a

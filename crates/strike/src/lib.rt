@@ -8,6 +8,7 @@ ghost use Rattle.model.specs.Law.{after};
 ghost use Rattle.model.specs.declared.call.Call.the-variants.{Join, Part, Strike as StrikeCall, Lift};
 ghost use Rattle.strike.specs.Struck.{without, without-simple};
 ghost use Rattle.strike.specs.Kept.{noted, kept, ends-reply, unstruck-reply};
+
 mod marks;
 
 use marks::Marks;
@@ -70,7 +71,10 @@ impl<S> Strike<S> {
         ensures store { λ r. ⌜ r .store ≡ store ⌝ }
         ensures none { λ r. ⌜ r .marks .count ≡ 0 ⌝ }
     {
-        Strike { store, marks: Marks::none() }
+        Strike {
+            store,
+            marks: Marks::none(),
+        }
     }
 }
 

@@ -57,21 +57,24 @@ pub struct Marks {
 
 impl Marks {
     // No edge noted.
-    pub fn none() -> Marks
+    pub(crate) fn none() -> Marks
         ensures { λ r. ⌜ r .count ≡ 0 ⌝ }
     {
-        Marks { count: 0, pairs: [(0, 0); LIMIT] }
+        Marks {
+            count: 0,
+            pairs: [(0, 0); LIMIT],
+        }
     }
 
     // Whether the edge between u and v is noted.
-    pub fn has(&self, u: Vertex, v: Vertex) -> bool
+    pub(crate) fn has(&self, u: Vertex, v: Vertex) -> bool
         ensures { λ r. ⌜ r ≡ listed (take (now (self .entry) .count) (now (self .entry) .pairs)) u v ⌝ }
     {
         is_listed(&self.pairs[0..self.count], u, v)
     }
 
     // Whether as many edges are noted as may be.
-    pub fn full(&self) -> bool
+    pub(crate) fn full(&self) -> bool
         ensures value { λ r. ⌜ r ≡ leb strike-limit (edges-below order-limit (listed (take (now (self .entry) .count) (now (self .entry) .pairs)))) ⌝ }
         ensures room { λ r. ⌜ (r ≡ false → now (self .entry) .count < strike-limit) ⌝ }
     {
@@ -79,7 +82,7 @@ impl Marks {
     }
 
     // Notes the edge between u and v, which is not noted yet and for which there is room.
-    pub fn note(&mut self, u: Vertex, v: Vertex)
+    pub(crate) fn note(&mut self, u: Vertex, v: Vertex)
         requires ends { ⌜ u < order-limit ⌝ ∗ ⌜ v < order-limit ⌝ ∗ ⌜ (u ≡ v → ⊥) ⌝ }
         requires room { ⌜ now self .count < strike-limit ⌝ }
         requires fresh { ⌜ listed (take (now self .count) (now self .pairs)) u v ≡ false ⌝ }
@@ -91,7 +94,7 @@ impl Marks {
     }
 
     // Clears the edge between u and v, which is noted: the last pair takes its place.
-    pub fn clear(&mut self, u: Vertex, v: Vertex)
+    pub(crate) fn clear(&mut self, u: Vertex, v: Vertex)
         requires ends { ⌜ u < order-limit ⌝ ∗ ⌜ v < order-limit ⌝ ∗ ⌜ (u ≡ v → ⊥) ⌝ }
         requires there { ⌜ listed (take (now self .count) (now self .pairs)) u v ≡ true ⌝ }
         ensures { λ _. ⌜ listed (take (now (self .exit) .count) (now (self .exit) .pairs)) ≡ removed (listed (take (now (self .entry) .count) (now (self .entry) .pairs))) u v ⌝ }
