@@ -1,0 +1,6 @@
+pub mod Edges
+pub mod Choices
+pub mod Cuts
+pub mod Pairs
+pub mod Computations
+pub mod Maps

@@ -1,0 +1,10 @@
+pub mod Lists
+pub mod Sums
+pub mod Reached
+pub mod Routes
+pub mod Balance
+pub mod Largest
+pub mod Arcs
+pub mod Push
+pub mod Most
+pub mod Peel

@@ -1,0 +1,2 @@
+pub mod Strength
+pub mod Variants
