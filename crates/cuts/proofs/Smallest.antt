@@ -28,15 +28,15 @@ module _ {X : Type 0} where
   kept-sub p (x ∷ xs) =
       elim (p x) as (λ b. Sub (cond b (x ∷ kept-by p xs) (kept-by p xs)) (x ∷ xs)) [ true ↦ sub-take x (kept-by p xs) xs (kept-sub p xs) | false ↦ sub-skip x (kept-by p xs) xs (kept-sub p xs) ]
 
-  in-left : (c : X) (xs ys : List X) → In c xs → In c (xs ++ ys)
+  pub in-left : (c : X) (xs ys : List X) → In c xs → In c (xs ++ ys)
   in-left c [] ys i = absurd i
   in-left c (x ∷ xs) ys i = ⊎-elim (λ e. inl e) (λ j. inr (in-left c xs ys j)) i
 
-  in-right : (c : X) (xs ys : List X) → In c ys → In c (xs ++ ys)
+  pub in-right : (c : X) (xs ys : List X) → In c ys → In c (xs ++ ys)
   in-right c [] ys i = i
   in-right c (x ∷ xs) ys i = inr (in-right c xs ys i)
 
-  in-either : (c : X) (xs ys : List X) → In c (xs ++ ys) → In c xs ⊎ In c ys
+  pub in-either : (c : X) (xs ys : List X) → In c (xs ++ ys) → In c xs ⊎ In c ys
   in-either c [] ys i = inr i
   in-either c (x ∷ xs) ys i = ⊎-elim (λ e. inl (inl e)) (λ j. ⊎-elim (λ k. inl (inr k)) (λ k. inr k) (in-either c xs ys j)) i
 

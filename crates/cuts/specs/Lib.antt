@@ -2,5 +2,6 @@ pub mod Edges
 pub mod Choices
 pub mod Cuts
 pub mod Pairs
+pub mod RouteRules
 pub mod Computations
 pub mod Maps

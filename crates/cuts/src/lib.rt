@@ -1,10 +1,20 @@
 // Cuts, values of pairs, connectivity, and the two computations of it: definitions and theorems.
 // There is next to nothing to run here: each function's contract is a theorem, and the crate is
 // refused without its proof.
+ghost use Rattle.cuts.specs.Pairs.{Edge-value-by-flow, Nearest-edge-cut};
 mod edge;
 
 pub use edge::Edge;
 pub use edge::EdgeDebug;
 pub use edge::EdgePartialEq;
 
-fn nothing() {}
+// The edge value of a pair is the value of a largest flow, and its nearest cut is what crosses
+// the flow's residual side.
+pub fn edge_value_by_flow()
+    ensures { λ _. ⌜ Edge-value-by-flow ⌝ }
+{}
+
+// The nearest of the smallest edge cuts of a pair exists, is one of them, and is the only one.
+pub fn nearest_edge_cut()
+    ensures { λ _. ⌜ Nearest-edge-cut ⌝ }
+{}

@@ -1,3 +1,40 @@
 // The computations of connectivity are right: theorems. There is nothing to run here: each
 // function's contract is a theorem, and the crate is refused without its proof.
-fn nothing() {}
+ghost use Rattle.strength.specs.Strength.{Few-edge-runs, No-smaller-edge-cut, Edge-strength, Edge-pair};
+ghost use Rattle.strength.specs.Variants.{Variants-refuted, Seven-refutes, Near-end-refuted};
+
+// The runs of the edge computation are at most half the order less one.
+pub fn few_edge_runs()
+    ensures { λ _. ⌜ Few-edge-runs ⌝ }
+{}
+
+// No edge cut is smaller than the strength of the edge computation.
+pub fn no_smaller_edge_cut()
+    ensures { λ _. ⌜ No-smaller-edge-cut ⌝ }
+{}
+
+// The strength of the edge computation is the edge connectivity.
+pub fn edge_strength()
+    ensures { λ _. ⌜ Edge-strength ⌝ }
+{}
+
+// The pair that the edge computation names has the strength as its edge value.
+pub fn edge_pair()
+    ensures { λ _. ⌜ Edge-pair ⌝ }
+{}
+
+// Three computations that look right and are wrong: stopping after the runs from the sparsest
+// vertex, and ending the rounds among its neighbours one too early.
+pub fn variants_refuted()
+    ensures { λ _. ⌜ Variants-refuted ⌝ }
+{}
+
+// On a map of seven vertices the runs from the sparsest vertex give 4, and the truth is 3.
+pub fn seven_refutes()
+    ensures { λ _. ⌜ Seven-refutes ⌝ }
+{}
+
+// A vertex cut read at the near end of the arcs that leave a side need not be a cut.
+pub fn near_end_refuted()
+    ensures { λ _. ⌜ Near-end-refuted ⌝ }
+{}
