@@ -3,4 +3,10 @@ pub mod Standing
 pub mod EdgeLists
 pub mod EdgeParts
 pub mod EdgeNearest
+pub mod VertexLists
+pub mod VertexLaws
+pub mod VertexSplit
+pub mod VertexBorder
+pub mod VertexExits
+pub mod VertexFlow
 pub mod Shown

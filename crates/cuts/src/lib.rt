@@ -1,7 +1,7 @@
 // Cuts, values of pairs, connectivity, and the two computations of it: definitions and theorems.
 // There is next to nothing to run here: each function's contract is a theorem, and the crate is
 // refused without its proof.
-ghost use Rattle.cuts.specs.Pairs.{Edge-value-by-flow, Nearest-edge-cut};
+ghost use Rattle.cuts.specs.Pairs.{Edge-value-by-flow, Nearest-edge-cut, Vertex-value-by-flow, Nearest-vertex-cut, Vertex-value-laws};
 mod edge;
 
 pub use edge::Edge;
@@ -17,4 +17,21 @@ pub fn edge_value_by_flow()
 // The nearest of the smallest edge cuts of a pair exists, is one of them, and is the only one.
 pub fn nearest_edge_cut()
     ensures { λ _. ⌜ Nearest-edge-cut ⌝ }
+{}
+
+// The vertex value of an unjoined pair is the value of a largest flow in the split digraph, and
+// its nearest cut is what crosses the residual side.
+pub fn vertex_value_by_flow()
+    ensures { λ _. ⌜ Vertex-value-by-flow ⌝ }
+{}
+
+// The nearest vertex cut of an unjoined pair is a smallest cut, lies nearer than every other, and
+// is the only one that does.
+pub fn nearest_vertex_cut()
+    ensures { λ _. ⌜ Nearest-vertex-cut ⌝ }
+{}
+
+// The vertex value of an unjoined pair is the same both ways, and at most the degree of either end.
+pub fn vertex_value_laws()
+    ensures { λ _. ⌜ Vertex-value-laws ⌝ }
 {}

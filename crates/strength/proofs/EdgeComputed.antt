@@ -1,25 +1,32 @@
 -- The edge computation: its strength is the edge connectivity, no cut is smaller, and the pair
 -- that it names has that value.
-use mathlib.Core.Path.{_≡_, refl, sym, ap, _∙_}
-use mathlib.Core.Bool.{true, false, cond}
-use mathlib.Core.List.{List, map}
+use mathlib.Core.Path.{_≡_, refl, sym, ap, ap₂, fun-ext, _∙_}
+use mathlib.Core.Bool.{Bool, true, false, cond, not, _&&_, _||_}
+use mathlib.Core.List.{List, [], _∷_, map}
 use mathlib.Core.Logic.{_⊎_, inl, inr}
 use Prim.Native.Nat.{ℕ, _<_, _≤_}
 use native.Mathlib.Omega.{arith}
 use lib.Dec.{eqb, ltb}
 use lib.ListN.{length}
 use Rattle.std.specs.declared.option.Option.the-variants.{Some}
+use Rattle.std.specs.shelf.Lists.{kept-by}
+use Rattle.std.proofs.shelf.Ways.{tells}
 use Rattle.std.proofs.shelf.Tests.{cases-eq, cases-bool, cond-true, cond-false, cond-both, ltb-true, ltb-false, eq-eqb, eqb-true, ne-eqb}
 use Rattle.graph.specs.Graph.{Graph, Simple}
 use Rattle.cuts.specs.declared.edge.Edge.{Edge}
-use Rattle.cuts.specs.Cuts.{edge-value, is-edge-cut, edge-connectivity}
-use Rattle.cuts.specs.Computations.{Run, Computed, least-degree, sparsest, least-value, first-with, pair-of, edge-runs, edge-computation}
-use Rattle.cuts.specs.Choices.{In}
+use Rattle.cuts.specs.Cuts.{edge-value, nearest-edge-cut, is-edge-cut, edge-connectivity}
+use Rattle.cuts.specs.Edges.{edge-list}
+use Rattle.cuts.specs.Pairs.{crossing-edges, Edge-value-laws}
+use Rattle.cuts.specs.Computations.{Run, Computed, least-degree, sparsest, least-value, first-with, pair-of, edge-runs, edges-at, edge-computation}
+use Rattle.cuts.specs.Choices.{In, smallest, size}
 use Rattle.cuts.proofs.Standing.{find-in}
-use Rattle.strength.specs.Strength.{No-smaller-edge-cut, Edge-strength, Edge-pair}
+use Rattle.cuts.proofs.EdgeLists.{edge-out, crossing-count}
+use Rattle.cuts.proofs.EdgeNearest.{nearest-edge-cut-laws, parts-turn}
+use Rattle.strength.specs.Strength.{No-smaller-edge-cut, Edge-strength, Edge-pair, Edge-cut-found}
 use Rattle.strength.proofs.EdgeLists.{map-item, least-default, least-is}
-use Rattle.strength.proofs.EdgeCrossing.{rest, rest-self, rest-parts, rest-left}
-use Rattle.strength.proofs.EdgeValues.{value-degree, value-met, parts-cut, cut-parts, connectivity-below, connectivity-met}
+use Rattle.strength.proofs.EdgeCrossing.{crossing-parts, rest, rest-self, rest-parts, rest-left}
+use Rattle.strength.proofs.EdgeValues.{value-below, value-degree, value-met, parts-cut, cut-parts, connectivity-below, connectivity-met}
+use Rattle.strength.proofs.EdgeSets.{leaving-one}
 use Rattle.strength.proofs.EdgeRuns.{sparsest-is, honest, least-bound}
 
 -- The least of the degrees and of the values of the runs.
@@ -126,3 +133,64 @@ edge-pair g ok two =
           (sparsest g, another (sparsest g), pair-sparsest g e, r .0, x .0, x .1,
             omega (arith, ltb-false _ _ e, lowest-below g, strength-is g, r .1, value-lowest g ok _ _ (r .0) (x .0) (x .1), value-degree g ok _ (another (sparsest g)) (r .0) (x .1))))
     ]
+
+-- The cut where a run is below the least degree, and where none is.
+cut-run : (g : Graph) → ltb (lowest g) (least-degree g) ≡ true
+    → edge-computation g .cut ≡ nearest-edge-cut g (first-with (lowest g) (edge-runs g) .from) (first-with (lowest g) (edge-runs g) .to)
+unfolding edge-computation
+cut-run g e = ap (λ (c : Computed Edge). c .cut) (cond-true (ltb (lowest g) (least-degree g)) _ _ e)
+
+cut-sparsest : (g : Graph) → ltb (lowest g) (least-degree g) ≡ false → edge-computation g .cut ≡ edges-at g (sparsest g)
+unfolding edge-computation
+cut-sparsest g e = ap (λ (c : Computed Edge). c .cut) (cond-false (ltb (lowest g) (least-degree g)) _ _ e)
+
+-- Tests that agree on a list keep the same of it.
+kept-same : (p q : Edge → Bool) (xs : List Edge) → ((e : Edge) → In e xs → p e ≡ q e) → kept-by p xs ≡ kept-by q xs
+kept-same p q [] h = refl
+kept-same p q (x ∷ xs) h =
+    ap₂ (λ (b : Bool) (ys : List Edge). cond b (x ∷ ys) ys) (h x (inl refl)) (kept-same p q xs (λ e i. h e (inr i)))
+
+-- The edges at a vertex are those that cross the set of it alone.
+edges-at-cross : (g : Graph) (r : ℕ) → edges-at g r ≡ crossing-edges g (λ q. eqb q r)
+edges-at-cross g r = kept-same _ _ (edge-list g) (λ e i. one-end (e .low) (e .high) (edge-out g e i .0))
+  where
+    one-end : (l h : ℕ) → l < h → (eqb l r || eqb h r) ≡ ((eqb l r && not (eqb h r)) || (eqb h r && not (eqb l r)))
+    one-end l h lt = grind (arith, tells)
+
+-- The cut that comes out is an edge cut of the strength's size.
+pub edge-cut-found : Edge-cut-found
+edge-cut-found g ok two =
+    elim (cases-bool (ltb (lowest g) (least-degree g))) [
+      | inl e ↦
+          (elim (lowest-met g) [
+            | inl z ↦ absurd (omega (arith, z, ltb-true _ _ e))
+            | inr m ↦
+                (let r = first-with (lowest g) (edge-runs g) in
+                let h = honest g ok r (m .0) in
+                let laws = nearest-edge-cut-laws g (r .from) (r .to) ok (h .from-in) (h .to-in) (h .differ) in
+                let near = laws .1 (nearest-edge-cut g (r .from) (r .to)) (laws .0) in
+                (ap (is-edge-cut g) (cut-run g e) ∙ parts-cut g ok _ (r .from) (r .to) (h .from-in) (h .to-in) (near .0),
+                 ap length (cut-run g e) ∙ near .1 ∙ sym (h .valued) ∙ m .1 ∙ sym (strength-is g)))
+          ])
+      | inr e ↦
+          (let r = sparsest-is g ok in
+          let s = sparsest g in
+          let x = another-is (g .order) s two in
+          let b = another s in
+          let at = cut-sparsest g e ∙ edges-at-cross g s in
+          let part = crossing-parts g ok (λ q. eqb q s) s b (r .0) (eq-eqb s s refl) (ne-eqb b s (λ q. x .1 (sym q))) in
+          let size = crossing-count g ok (λ q. eqb q s) in
+          (ap (is-edge-cut g) at ∙ parts-cut g ok _ s b (r .0) (x .0) part,
+           ap length at ∙ omega (arith, size, leaving-one g ok s, r .1, ltb-false _ _ e, lowest-below g, strength-is g,
+             value-below g ok (λ q. eqb q s) s b (r .0) (eq-eqb s s refl) (ne-eqb b s (λ q. x .1 (sym q))), value-lowest g ok s b (r .0) (x .0) (x .1))))
+    ]
+
+value-turn : (g : Graph) → Simple g → (a b : ℕ) → a < g .order → b < g .order → edge-value g a b ≡ edge-value g b a
+unfolding edge-value
+value-turn g ok a b ha hb = ap (λ (p : List Edge → Bool). size (smallest p (edge-list g))) (fun-ext (parts-turn g ok a b ha hb))
+
+-- Values are the same both ways, and at most the degree of either end.
+pub edge-value-laws : Edge-value-laws
+edge-value-laws g a b ok ha hb ne =
+    let turn = value-turn g ok a b ha hb in
+    (turn, value-degree g ok a b ha ne, omega (arith, turn, value-degree g ok b a hb (λ e. ne (sym e))))

@@ -1,6 +1,7 @@
 // The computations of connectivity are right: theorems. There is nothing to run here: each
 // function's contract is a theorem, and the crate is refused without its proof.
-ghost use Rattle.strength.specs.Strength.{Few-edge-runs, No-smaller-edge-cut, Edge-strength, Edge-pair};
+ghost use Rattle.strength.specs.Strength.{Few-edge-runs, No-smaller-edge-cut, Edge-strength, Edge-pair, Edge-cut-found};
+ghost use Rattle.cuts.specs.Pairs.{Edge-value-laws};
 ghost use Rattle.strength.specs.Variants.{Variants-refuted, Seven-refutes, Near-end-refuted};
 
 // The runs of the edge computation are at most half the order less one.
@@ -21,6 +22,16 @@ pub fn edge_strength()
 // The pair that the edge computation names has the strength as its edge value.
 pub fn edge_pair()
     ensures { λ _. ⌜ Edge-pair ⌝ }
+{}
+
+// The cut of the edge computation is an edge cut of that size.
+pub fn edge_cut_found()
+    ensures { λ _. ⌜ Edge-cut-found ⌝ }
+{}
+
+// The edge value of a pair is the same both ways, and at most the degree of either end.
+pub fn edge_value_laws()
+    ensures { λ _. ⌜ Edge-value-laws ⌝ }
 {}
 
 // Three computations that look right and are wrong: stopping after the runs from the sparsest
