@@ -6,3 +6,4 @@ pub mod EdgeValues
 pub mod EdgeRuns
 pub mod EdgeComputed
 pub mod Refuted
+pub mod Mapped

@@ -24,7 +24,7 @@ unfolding count upto any all rounds reached choices smallest-from find least ver
 seven-refutes = (refl, refl)
 
 -- Every listed edge has its lower end first and its higher end below n.
-good : ℕ → List Edge → Bool
+unfoldable pub good : ℕ → List Edge → Bool
 good n [] = true
 good n (e ∷ es) = (ltb (e .low) (e .high) && ltb (e .high) n) && good n es
 
@@ -50,7 +50,7 @@ has-bounded n (e ∷ es) u v ok h =
       (or-cases (is-between u v e) (has-edge es u v) h)
 
 -- A graph by such edges is simple.
-graph-of-simple : (n : ℕ) (es : List Edge) → 1 ≤ n → n ≤ order-limit → good n es ≡ true → Simple (graph-of n es)
+pub graph-of-simple : (n : ℕ) (es : List Edge) → 1 ≤ n → n ≤ order-limit → good n es ≡ true → Simple (graph-of n es)
 graph-of-simple n es some small ok = record {
   some = some;
   small = small;

@@ -1,2 +1,3 @@
 pub mod Strength
 pub mod Variants
+pub mod Checked

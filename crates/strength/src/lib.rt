@@ -2,6 +2,7 @@
 // function's contract is a theorem, and the crate is refused without its proof.
 ghost use Rattle.strength.specs.Strength.{Few-edge-runs, No-smaller-edge-cut, Edge-strength, Edge-pair, Edge-cut-found};
 ghost use Rattle.cuts.specs.Pairs.{Edge-value-laws};
+ghost use Rattle.strength.specs.Checked.{Check-maps-hold};
 ghost use Rattle.strength.specs.Variants.{Variants-refuted, Seven-refutes, Near-end-refuted};
 
 // The runs of the edge computation are at most half the order less one.
@@ -32,6 +33,11 @@ pub fn edge_cut_found()
 // The edge value of a pair is the same both ways, and at most the degree of either end.
 pub fn edge_value_laws()
     ensures { λ _. ⌜ Edge-value-laws ⌝ }
+{}
+
+// The check maps have the strengths, runs, pairs, cuts and connectivities that are written down.
+pub fn check_maps_hold()
+    ensures { λ _. ⌜ Check-maps-hold ⌝ }
 {}
 
 // Three computations that look right and are wrong: stopping after the runs from the sparsest
