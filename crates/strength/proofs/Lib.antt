@@ -5,5 +5,15 @@ pub mod EdgeCrossing
 pub mod EdgeValues
 pub mod EdgeRuns
 pub mod EdgeComputed
+pub mod VertexCounts
+pub mod VertexLists
+pub mod VertexSets
+pub mod VertexCore
+pub mod VertexCross
+pub mod VertexValue
+pub mod VertexLeast
+pub mod VertexRuns
+pub mod VertexStrength
+pub mod VertexFew
 pub mod Refuted
 pub mod Mapped

@@ -1,6 +1,6 @@
 // The computations of connectivity are right: theorems. There is nothing to run here: each
 // function's contract is a theorem, and the crate is refused without its proof.
-ghost use Rattle.strength.specs.Strength.{Few-edge-runs, No-smaller-edge-cut, Edge-strength, Edge-pair, Edge-cut-found};
+ghost use Rattle.strength.specs.Strength.{Few-edge-runs, No-smaller-edge-cut, Edge-strength, Edge-pair, Edge-cut-found, No-smaller-vertex-cut, Vertex-strength, Vertex-pair, Few-vertex-runs};
 ghost use Rattle.cuts.specs.Pairs.{Edge-value-laws};
 ghost use Rattle.strength.specs.Checked.{Check-maps-hold};
 ghost use Rattle.strength.specs.Variants.{Variants-refuted, Seven-refutes, Near-end-refuted};
@@ -33,6 +33,26 @@ pub fn edge_cut_found()
 // The edge value of a pair is the same both ways, and at most the degree of either end.
 pub fn edge_value_laws()
     ensures { λ _. ⌜ Edge-value-laws ⌝ }
+{}
+
+// No vertex cut is smaller than the strength of the vertex computation.
+pub fn no_smaller_vertex_cut()
+    ensures { λ _. ⌜ No-smaller-vertex-cut ⌝ }
+{}
+
+// The strength of the vertex computation is the vertex connectivity.
+pub fn vertex_strength()
+    ensures { λ _. ⌜ Vertex-strength ⌝ }
+{}
+
+// The pair that the vertex computation names is unjoined, and its value is the strength.
+pub fn vertex_pair()
+    ensures { λ _. ⌜ Vertex-pair ⌝ }
+{}
+
+// The vertex computation takes few runs.
+pub fn few_vertex_runs()
+    ensures { λ _. ⌜ Few-vertex-runs ⌝ }
 {}
 
 // The check maps have the strengths, runs, pairs, cuts and connectivities that are written down.
