@@ -3,6 +3,9 @@ pub mod Standing
 pub mod EdgeLists
 pub mod EdgeParts
 pub mod EdgeNearest
+pub mod RouteCounts
+pub mod RouteMeets
+pub mod RouteFits
 pub mod VertexLists
 pub mod VertexLaws
 pub mod VertexSplit

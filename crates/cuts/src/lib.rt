@@ -2,6 +2,7 @@
 // There is next to nothing to run here: each function's contract is a theorem, and the crate is
 // refused without its proof.
 ghost use Rattle.cuts.specs.Pairs.{Edge-value-by-flow, Nearest-edge-cut, Vertex-value-by-flow, Nearest-vertex-cut, Vertex-value-laws};
+ghost use Rattle.cuts.specs.RouteRules.{Each-edge-on-one-route, Each-vertex-on-one-route, Routes-fit};
 mod edge;
 
 pub use edge::Edge;
@@ -34,4 +35,19 @@ pub fn nearest_vertex_cut()
 // The vertex value of an unjoined pair is the same both ways, and at most the degree of either end.
 pub fn vertex_value_laws()
     ensures { λ _. ⌜ Vertex-value-laws ⌝ }
+{}
+
+// Of as many edges as there are routes, that part the two ends, each lies on exactly one route.
+pub fn each_edge_on_one_route()
+    ensures { λ _. ⌜ Each-edge-on-one-route ⌝ }
+{}
+
+// And so of vertices that part them, neither of them an end.
+pub fn each_vertex_on_one_route()
+    ensures { λ _. ⌜ Each-vertex-on-one-route ⌝ }
+{}
+
+// Edge routes take at most a byte for each edge, and two for each vertex but one.
+pub fn routes_fit()
+    ensures { λ _. ⌜ Routes-fit ⌝ }
 {}

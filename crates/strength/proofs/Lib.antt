@@ -15,5 +15,7 @@ pub mod VertexLeast
 pub mod VertexRuns
 pub mod VertexStrength
 pub mod VertexFew
+pub mod VertexFound
 pub mod Refuted
 pub mod Mapped
+pub mod CutsFit

@@ -33,7 +33,7 @@ cut-below g m =
     omega (arith, m .many, count-miss (m .cut) (m .separation .here) (g .order) (m .separation .here-below) (m .separation .disjoint (m .separation .here) (m .separation .here-in)))
 
 -- The run that the pair is taken from: it stands among the runs, and has the least value.
-named : (g : Graph) → Simple g → complete g ≡ false
+pub named : (g : Graph) → Simple g → complete g ≡ false
     → In (first-with (least-value (g .order) (vertex-runs g)) (vertex-runs g)) (vertex-runs g)
     × (first-with (least-value (g .order) (vertex-runs g)) (vertex-runs g) .value ≡ least-value (g .order) (vertex-runs g))
 named g s h =

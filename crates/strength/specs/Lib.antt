@@ -1,3 +1,4 @@
 pub mod Strength
 pub mod Variants
 pub mod Checked
+pub mod Memory

@@ -1,7 +1,8 @@
 // The computations of connectivity are right: theorems. There is nothing to run here: each
 // function's contract is a theorem, and the crate is refused without its proof.
-ghost use Rattle.strength.specs.Strength.{Few-edge-runs, No-smaller-edge-cut, Edge-strength, Edge-pair, Edge-cut-found, No-smaller-vertex-cut, Vertex-strength, Vertex-pair, Few-vertex-runs};
+ghost use Rattle.strength.specs.Strength.{Few-edge-runs, No-smaller-edge-cut, Edge-strength, Edge-pair, Edge-cut-found, No-smaller-vertex-cut, Vertex-strength, Vertex-pair, Few-vertex-runs, Vertex-cut-found};
 ghost use Rattle.cuts.specs.Pairs.{Edge-value-laws};
+ghost use Rattle.strength.specs.Memory.{Cuts-fit};
 ghost use Rattle.strength.specs.Checked.{Check-maps-hold};
 ghost use Rattle.strength.specs.Variants.{Variants-refuted, Seven-refutes, Near-end-refuted};
 
@@ -53,6 +54,16 @@ pub fn vertex_pair()
 // The vertex computation takes few runs.
 pub fn few_vertex_runs()
     ensures { λ _. ⌜ Few-vertex-runs ⌝ }
+{}
+
+// The cut of the vertex computation is a vertex cut of that size.
+pub fn vertex_cut_found()
+    ensures { λ _. ⌜ Vertex-cut-found ⌝ }
+{}
+
+// No cut has as many items as there are vertices.
+pub fn cuts_fit()
+    ensures { λ _. ⌜ Cuts-fit ⌝ }
 {}
 
 // The check maps have the strengths, runs, pairs, cuts and connectivities that are written down.
