@@ -7,7 +7,7 @@ use lib.Dec.{eqb, ltb}
 use lib.ListN.{length}
 use Rattle.std.specs.shelf.Lists.{kept-by}
 use Rattle.graph.specs.Graph.{Graph, Simple, degree}
-use Rattle.flows.specs.Lists.{upto}
+use Rattle.flows.specs.Lists.{upto, among}
 use Rattle.flows.specs.Flow.{Digraph, Flow, residual-side}
 use Rattle.cuts.specs.declared.edge.Edge.{Edge}
 use Rattle.cuts.specs.Edges.{edge-list, without-edges, without-vertices, side}
@@ -89,3 +89,9 @@ abbrev pub Vertex-value-laws : Type 0
 Vertex-value-laws =
     (g : Graph) (a b : ℕ) → Simple g → a < g .order → b < g .order → (a ≡ b → ⊥) → g .joined a b ≡ false
     → (vertex-value g a b ≡ vertex-value g b a) × (vertex-value g a b ≤ degree g a) × (vertex-value g a b ≤ degree g b)
+
+-- No list of vertices that parts a and b, and has neither, is shorter than the value.
+abbrev pub Vertex-value-least : Type 0
+Vertex-value-least =
+    (g : Graph) (a b : ℕ) → Simple g → a < g .order → b < g .order → (a ≡ b → ⊥) → g .joined a b ≡ false
+    → (d : List ℕ) → among d a ≡ false → among d b ≡ false → vertices-part g a b d ≡ true → vertex-value g a b ≤ length d
