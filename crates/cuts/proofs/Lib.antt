@@ -12,4 +12,5 @@ pub mod VertexSplit
 pub mod VertexBorder
 pub mod VertexExits
 pub mod VertexFlow
+pub mod VertexAny
 pub mod Shown

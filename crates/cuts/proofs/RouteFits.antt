@@ -94,7 +94,7 @@ routes-differ xs ys apart e f i j =
           (same-edge-ends (e .low) (e .high) (f .low) (f .high) h)))
 
 -- A relation within two lists and between them is one within the joined list.
-pairwise-append : {X : Type 0} (r : X → X → Type 0) (xs ys : List X) → Pairwise r xs → Pairwise r ys → ((x y : X) → In x xs → In y ys → r x y) → Pairwise r (xs ++ ys)
+pub pairwise-append : {X : Type 0} (r : X → X → Type 0) (xs ys : List X) → Pairwise r xs → Pairwise r ys → ((x y : X) → In x xs → In y ys → r x y) → Pairwise r (xs ++ ys)
 pairwise-append r [] ys p q h = q
 pairwise-append r (x ∷ xs) ys p q h =
     (all-append (r x) xs ys (p .0) (in-list-all (r x) ys (λ y j. h x y (inl refl) j)), pairwise-append r xs ys (p .1) q (λ y z i j. h y z (inr i) j))

@@ -1,7 +1,7 @@
 // Cuts, values of pairs, connectivity, and the two computations of it: definitions and theorems.
 // There is next to nothing to run here: each function's contract is a theorem, and the crate is
 // refused without its proof.
-ghost use Rattle.cuts.specs.Pairs.{Edge-value-by-flow, Nearest-edge-cut, Vertex-value-by-flow, Nearest-vertex-cut, Vertex-value-laws};
+ghost use Rattle.cuts.specs.Pairs.{Edge-value-by-flow, Nearest-edge-cut, Vertex-value-by-flow, Nearest-vertex-cut, Vertex-value-laws, Vertex-value-least};
 ghost use Rattle.cuts.specs.RouteRules.{Each-edge-on-one-route, Each-vertex-on-one-route, Routes-fit};
 mod edge;
 
@@ -35,6 +35,11 @@ pub fn nearest_vertex_cut()
 // The vertex value of an unjoined pair is the same both ways, and at most the degree of either end.
 pub fn vertex_value_laws()
     ensures { λ _. ⌜ Vertex-value-laws ⌝ }
+{}
+
+// No list of vertices that parts an unjoined pair, and has neither, is shorter than their value.
+pub fn vertex_value_least()
+    ensures { λ _. ⌜ Vertex-value-least ⌝ }
 {}
 
 // Of as many edges as there are routes, that part the two ends, each lies on exactly one route.

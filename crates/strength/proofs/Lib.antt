@@ -19,3 +19,5 @@ pub mod VertexFound
 pub mod Refuted
 pub mod Mapped
 pub mod CutsFit
+pub mod RunsApart
+pub mod RunsFit

@@ -21,7 +21,7 @@ use Rattle.strength.proofs.EdgeRuns.{least-degree-below, sparsest-is}
 use Rattle.strength.specs.Strength.{Vertex-pair, Few-vertex-runs}
 use Rattle.strength.proofs.VertexCounts.{count-up, count-rest}
 use Rattle.strength.proofs.VertexSets.{around, some-unjoined}
-use Rattle.strength.proofs.VertexValue.{length-kept}
+use Rattle.cuts.proofs.EdgeLists.{kept-count}
 use Rattle.strength.proofs.VertexLeast.{cut-size, cut-least, Smallest}
 use Rattle.strength.proofs.VertexLists.{least-met, count-on, count-off, up}
 use Rattle.strength.proofs.VertexRuns.{run-of, Due, place, rounds-from, round, follow, due-skip, due-on}
@@ -129,7 +129,7 @@ rounds-few g s r δ k h =
 far-many : (g : Graph) → Simple g → (r : ℕ) → r < g .order → length (far-runs g r) + degree g r + 1 ≡ g .order
 far-many g s r l =
     let kept : length (far-runs g r) ≡ count (λ v. not (eqb v r || g .joined r v)) (g .order) =
-    length-map (kept-by (λ v. not (eqb v r || g .joined r v)) (upto (g .order))) (run-of g r) ∙ length-kept (λ v. not (eqb v r || g .joined r v)) (g .order) in
+    length-map (kept-by (λ v. not (eqb v r || g .joined r v)) (upto (g .order))) (run-of g r) ∙ kept-count (λ v. not (eqb v r || g .joined r v)) (g .order) in
     let one : count (λ v. eqb v r || g .joined r v) (g .order) ≡ degree g r + 1 =
     count-one (g .joined r) (λ v. eqb v r || g .joined r v) r (g .order) l (s .irreflexive r) (or-left _ _ (eq-eqb r r refl))
     (λ v _ d. ap (λ (b : Bool). b || g .joined r v) (ne-eqb v r d)) in

@@ -16,7 +16,9 @@ use Rattle.cuts.proofs.Smallest.{kept-sub, size-least, size-met}
 use Rattle.strength.proofs.EdgeLists.{all-off}
 use Rattle.strength.proofs.VertexCounts.{count-among}
 use Rattle.strength.proofs.VertexSets.{Separation, around, sides-unjoined}
-use Rattle.strength.proofs.VertexValue.{length-kept, kept-fewer, sub-among, list-separates, separation-parts, cut-separates, separation-cuts}
+use Rattle.cuts.proofs.EdgeLists.{kept-count}
+use Rattle.cuts.proofs.VertexLists.{sub-among}
+use Rattle.strength.proofs.VertexValue.{kept-fewer, list-separates, separation-parts, cut-separates, separation-cuts}
 
 -- The size of a smallest vertex cut.
 abbrev pub cut-size : Graph → ℕ
@@ -25,7 +27,7 @@ cut-size g = size (smallest (is-vertex-cut g) (upto (g .order)))
 -- No separation is smaller.
 pub cut-least : (g : Graph) (S L : ℕ → Bool) → Separation g S L → cut-size g ≤ count S (g .order)
 cut-least g S L k =
-    omega (arith, size-least (is-vertex-cut g) (upto (g .order)) (kept-by S (upto (g .order))) (kept-sub S (upto (g .order))) (separation-cuts g S L k), length-kept S (g .order))
+    omega (arith, size-least (is-vertex-cut g) (upto (g .order)) (kept-by S (upto (g .order))) (kept-sub S (upto (g .order))) (separation-cuts g S L k), kept-count S (g .order))
 
 -- A separation of that size.
 pub record Smallest (g : Graph) : Type 0 where
@@ -76,7 +78,7 @@ pub value-least : (g : Graph) (S L : ℕ → Bool) → Separation g S L → (a b
 unfolding vertex-value
 value-least g S L k a b la ia ob fb =
     omega (arith, size-least (vertices-part g a b) (others g a b) (kept-by S (others g a b)) (kept-sub S (others g a b)) (part-by g S L k a b la ia ob fb),
-      kept-fewer S (λ v. not (eqb v a || eqb v b)) (upto (g .order)), length-kept S (g .order))
+      kept-fewer S (λ v. not (eqb v a || eqb v b)) (upto (g .order)), kept-count S (g .order))
 
 -- And the value of two unjoined vertices is the size of some separation, so no less than that of a smallest one.
 pub value-most : (g : Graph) → Simple g → (a b : ℕ) → a < g .order → b < g .order → (a ≡ b → ⊥) → g .joined a b ≡ false → cut-size g ≤ vertex-value g a b

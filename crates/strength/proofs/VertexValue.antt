@@ -21,18 +21,6 @@ use Rattle.cuts.proofs.Standing.{sub-in}
 use Rattle.strength.proofs.EdgeLists.{item-among, among-item, all-off}
 use Rattle.strength.proofs.VertexSets.{Separation}
 
--- As many numbers are kept as pass.
-pub length-kept : (p : ℕ → Bool) (n : ℕ) → length (kept-by p (upto n)) ≡ count p n
-unfolding upto count
-length-kept p zero = refl
-length-kept p (suc n) =
-    ap length (kept-by-append p (upto n) (n ∷ [])) ∙ length-append (kept-by p (upto n)) (kept-by p (n ∷ [])) ∙ omega (arith, length-kept p n, last (p n))
-  where
-    -- The last number is kept or not.
-    last : (b : Bool) → length (cond b (n ∷ []) []) ≡ cond b 1 0
-    last true = refl
-    last false = refl
-
 -- A filter of fewer items keeps no more.
 pub kept-fewer : (p q : ℕ → Bool) (xs : List ℕ) → length (kept-by p (kept-by q xs)) ≤ length (kept-by p xs)
 kept-fewer p q [] = omega arith
@@ -45,10 +33,6 @@ kept-fewer p q (x ∷ xs) = step (q x) (p x) refl (kept-fewer p q xs)
     step true false e h = rw e (omega arith)
     step false true e h = omega arith
     step false false e h = h
-
--- What stands in a sublist stands in the list.
-pub sub-among : {ys xs : List ℕ} → Sub ys xs → (v : ℕ) → among ys v ≡ true → among xs v ≡ true
-sub-among {ys} {xs} s v h = item-among v xs (sub-in s v (among-item v ys h))
 
 -- The steps that are left without the vertices c.
 abbrev pub left : Graph → List ℕ → ℕ → ℕ → Bool

@@ -2,7 +2,7 @@
 // function's contract is a theorem, and the crate is refused without its proof.
 ghost use Rattle.strength.specs.Strength.{Few-edge-runs, No-smaller-edge-cut, Edge-strength, Edge-pair, Edge-cut-found, No-smaller-vertex-cut, Vertex-strength, Vertex-pair, Few-vertex-runs, Vertex-cut-found};
 ghost use Rattle.cuts.specs.Pairs.{Edge-value-laws};
-ghost use Rattle.strength.specs.Memory.{Cuts-fit};
+ghost use Rattle.strength.specs.Memory.{Cuts-fit, Runs-fit};
 ghost use Rattle.strength.specs.Checked.{Check-maps-hold};
 ghost use Rattle.strength.specs.Variants.{Variants-refuted, Seven-refutes, Near-end-refuted};
 
@@ -64,6 +64,12 @@ pub fn vertex_cut_found()
 // No cut has as many items as there are vertices.
 pub fn cuts_fit()
     ensures { λ _. ⌜ Cuts-fit ⌝ }
+{}
+
+// The edge runs are at most half as many as vertices, and the vertex runs at most as many as
+// unjoined pairs, of which none is run twice.
+pub fn runs_fit()
+    ensures { λ _. ⌜ Runs-fit ⌝ }
 {}
 
 // The check maps have the strengths, runs, pairs, cuts and connectivities that are written down.
