@@ -6,6 +6,7 @@ pub mod EdgeNearest
 pub mod RouteCounts
 pub mod RouteMeets
 pub mod RouteFits
+pub mod RouteEnds
 pub mod VertexLists
 pub mod VertexLaws
 pub mod VertexSplit

@@ -69,3 +69,9 @@ Each-vertex-on-one-route =
     (g : Graph) (a b : ℕ) (routes : List (List ℕ)) (c : List ℕ) → Simple g → a < g .order → b < g .order → (a ≡ b → ⊥) → g .joined a b ≡ false
     → Vertex-routes g a b routes → among c a ≡ false → among c b ≡ false → vertices-part g a b c ≡ true → length routes ≡ length c
     → (w : ℕ) → among c w ≡ true → length (kept-by (λ xs. among xs w) routes) ≡ 1
+
+-- Vertex routes of an unjoined pair share no edge either, so they fit as well.
+abbrev pub Vertex-routes-fit : Type 0
+Vertex-routes-fit =
+    (g : Graph) (a b : ℕ) (routes : List (List ℕ)) → Simple g → a < g .order → b < g .order → (a ≡ b → ⊥) → g .joined a b ≡ false
+    → Vertex-routes g a b routes → Edge-routes g a b routes × (route-bytes routes ≤ edges g + 2 * (g .order - 1))

@@ -2,7 +2,7 @@
 // There is next to nothing to run here: each function's contract is a theorem, and the crate is
 // refused without its proof.
 ghost use Rattle.cuts.specs.Pairs.{Edge-value-by-flow, Nearest-edge-cut, Vertex-value-by-flow, Nearest-vertex-cut, Vertex-value-laws, Vertex-value-least};
-ghost use Rattle.cuts.specs.RouteRules.{Each-edge-on-one-route, Each-vertex-on-one-route, Routes-fit};
+ghost use Rattle.cuts.specs.RouteRules.{Each-edge-on-one-route, Each-vertex-on-one-route, Routes-fit, Vertex-routes-fit};
 mod edge;
 
 pub use edge::Edge;
@@ -55,4 +55,9 @@ pub fn each_vertex_on_one_route()
 // Edge routes take at most a byte for each edge, and two for each vertex but one.
 pub fn routes_fit()
     ensures { λ _. ⌜ Routes-fit ⌝ }
+{}
+
+// Vertex routes of an unjoined pair share no edge, and fit into as much.
+pub fn vertex_routes_fit()
+    ensures { λ _. ⌜ Vertex-routes-fit ⌝ }
 {}
