@@ -1,0 +1,4 @@
+pub mod Turns
+pub mod Writes
+pub mod Scans
+pub mod Sets

@@ -1,0 +1,6 @@
+use lib.ListN.{length}
+use Rattle.rows.proofs.Sets.{none-carried}
+use Rattle.rows.proofs.flow.wipe.Needs as need
+
+pub returns : need.returns
+returns c = none-carried (c .zero .last .words) (length (c .args .words .now)) (c .zero .ensures)
