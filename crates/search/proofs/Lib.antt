@@ -1,0 +1,5 @@
+pub mod Fresh
+pub mod Notes
+pub mod States
+pub mod Turns
+pub mod Lines
