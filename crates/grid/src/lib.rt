@@ -25,6 +25,9 @@ use store::Map;
 use words::Cells;
 use words::wipe_rows;
 
+pub use rows::word_next;
+pub use words::wipe;
+
 // A map of n vertices over the first 4 n of the lent words. The ghost facts say that what the
 // words mean is a simple graph; the bits from n up in a row are clear by the last of them.
 #[derive(Drop)]

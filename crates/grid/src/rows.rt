@@ -33,7 +33,7 @@ pub(crate) fn row_count(row: &[u64]) -> u16
 }
 
 // The lowest bit of a word that is set and not below k.
-fn word_next(word: u64, k: u16) -> Option<u16>
+pub fn word_next(word: u64, k: u16) -> Option<u16>
     requires { ⌜ k < 64 ⌝ }
     ensures { λ r. ⌜ r ≡ first (bit word) k (64 - k) ⌝ }
 {

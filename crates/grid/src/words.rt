@@ -87,7 +87,7 @@ fn edge_take(words: &mut [u64], u: Vertex, v: Vertex)
 }
 
 // Writes 0 into every word.
-fn wipe(words: &mut [u64])
+pub fn wipe(words: &mut [u64])
     ensures { λ _. ⌜ now (words .exit) ≡ replicate (length (now (words .entry))) 0 ⌝ }
 {
     for word in words.iter_mut() {

@@ -12,7 +12,6 @@ use crate::words::has_bit;
 use crate::words::lowest;
 use crate::words::set_bit;
 use crate::words::word_at;
-use crate::words::zero;
 
 // How many words a row takes, and how many rows there are.
 const ROW_WORDS: usize = 8;
@@ -29,7 +28,7 @@ fn place(q: u16, p: u16) -> usize
 pub fn wipe(words: &mut [u64])
     ensures { λ _. ⌜ carried (now (words .exit)) ≡ (λ x y. false) ⌝ }
 {
-    zero(words);
+    grid::wipe(words);
 }
 
 // Whether the flow goes along the arc from q to p.

@@ -12,7 +12,6 @@ use crate::words::has_bit;
 use crate::words::lowest;
 use crate::words::set_bit;
 use crate::words::word_at;
-use crate::words::zero;
 
 // Writes 0 into the first n words: seven of them are the whole set.
 fn zero_front(words: &mut [u64], n: usize)
@@ -20,7 +19,7 @@ fn zero_front(words: &mut [u64], n: usize)
     ensures marks { λ _. ⌜ (7 ≤ n → marked (now (words .exit)) ≡ (λ k. false)) ⌝ }
     ensures rest { λ _. ⌜ drop n (now (words .exit)) ≡ drop n (now (words .entry)) ⌝ }
 {
-    zero(&mut words[0..n]);
+    grid::wipe(&mut words[0..n]);
 }
 
 // Unmarks every node, and leaves the words past the seventh as they are.

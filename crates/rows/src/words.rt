@@ -4,9 +4,10 @@ ghost use mathlib.Core.Path.{_≡_};
 ghost use mathlib.Core.Bool.{cond, not, _&&_, _||_};
 ghost use Prim.Native.Nat.{ℕ, _-_, _<_, _≤_};
 ghost use lib.Dec.{eqb};
-ghost use lib.ListN.{length, getD, drop, replicate};
+ghost use lib.ListN.{length, getD, drop};
 ghost use Rattle.graph.specs.Graph.{first};
 ghost use Rattle.grid.specs.Rows.{bit, has};
+use grid::word_next;
 
 // How many words a row has, and how many bits.
 pub(crate) const USED_WORDS: u16 = 7;
@@ -43,28 +44,6 @@ pub(crate) fn clear_bit(words: &mut [u64], at: usize, k: u16)
 {
     let one: u64 = 1 << k;
     words[at] = words[at] & !one;
-}
-
-// Writes 0 into every word.
-pub(crate) fn zero(words: &mut [u64])
-    ensures { λ _. ⌜ now (words .exit) ≡ replicate (length (now (words .entry))) 0 ⌝ }
-{
-    for word in words.iter_mut() {
-        *word = 0;
-    }
-}
-
-// The lowest bit of a word that is set and not below k.
-fn word_next(word: u64, k: u16) -> Option<u16>
-    requires { ⌜ k < 64 ⌝ }
-    ensures { λ r. ⌜ r ≡ first (bit word) k (64 - k) ⌝ }
-{
-    let rest = word >> k;
-    if rest == 0 {
-        None
-    } else {
-        Some(k + rest.trailing_zeros() as u16)
-    }
 }
 
 // A word as it is, or with each bit turned, so that the bits looked for are set.

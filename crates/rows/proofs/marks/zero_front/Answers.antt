@@ -12,6 +12,6 @@ returns c =
     let n = c .args .n in
     let all : length (take (n - 0) words) ≡ n = simp length-take (omega arith) in
     record {
-      marks = λ h. none-marked (c .zero .last .words) _ n (c .zero .ensures ∙ ap (λ k. replicate {A = ℕ} k 0) all) h;
-      rest = drop-putMid 0 (n - 0) words (c .zero .last .words) n (omega arith) (omega arith) (omega (arith, all, c .zero .kept .words));
+      marks = λ h. none-marked (c .wipe .last .words) _ n (c .wipe .ensures ∙ ap (λ k. replicate {A = ℕ} k 0) all) h;
+      rest = drop-putMid 0 (n - 0) words (c .wipe .last .words) n (omega arith) (omega arith) (omega (arith, all, c .wipe .kept .words));
     }
