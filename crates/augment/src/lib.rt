@@ -1,5 +1,7 @@
 // What follows a search that found its goal: the route is read back from the nodes that were
 // noted on the way, and one unit more is pushed along it.
+#![tactic(auto)]
+
 mod back;
 mod push;
 

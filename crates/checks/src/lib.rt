@@ -1,4 +1,6 @@
 // Tests of whole sessions over each store: what frames meet, refusal by refusal.
+#![tactic(auto)]
+
 #[cfg(test)]
 mod library;
 #[cfg(test)]

@@ -22,9 +22,9 @@ use Rattle.cuts.proofs.Standing.{all_in, in_all, find_in, sub_full}
 use Rattle.cuts.proofs.EdgeLists.{edge_out, distinct_edges, has_in, has_swap, crossing_count}
 use Rattle.cuts.proofs.EdgeParts.{crossing_keeps, crossing_parts, parted_between, leaving_has, leaving_most}
 
-not_false : (b : Bool) → not b ≡ true → b ≡ false
-not_false true h = let z : ⊥ = true≢false (sym h) in absurd z
-not_false false h = refl
+not-false : (b : Bool) → not b ≡ true → b ≡ false
+not-false true h = let z : ⊥ = true≢false (sym h) in absurd z
+not-false false h = refl
 
 -- A graph's two-way digraph is sound.
 pub both_sound : (g : Graph) → Simple g → Sound (both_ways g)
@@ -45,9 +45,9 @@ module _ (g : Graph) (simple : Simple g) (a : ℕ) (ha : a < g.order) where
       let hi = linked (without_edges g d) a e.high in
       has_in g d e s i
       (⊎_elim
-      (λ h. let p = and_parts lo (not hi) h in leaving_has g simple a a ha d e.low e.high p.0 (not_false hi p.1) on)
+      (λ h. let p = and_parts lo (not hi) h in leaving_has g simple a a ha d e.low e.high p.0 (not-false hi p.1) on)
       (λ h. let p = and_parts hi (not lo) h in
-      has_swap d e.low e.high ∙ leaving_has g simple a a ha d e.high e.low p.0 (not_false lo p.1) (simple.symmetric e.high e.low ∙ on))
+      has_swap d e.low e.high ∙ leaving_has g simple a a ha d e.high e.low p.0 (not-false lo p.1) (simple.symmetric e.high e.low ∙ on))
       (or_cases (lo && not hi) (hi && not lo) t))
 
   pub is_crossing : (d : List Edge) → Sub d (edge_list g) → leaving g.order g.joined (λ q. linked (without_edges g d) a q) ≡ length d → d ≡ crossing_edges g (λ q. linked (without_edges g d) a q)

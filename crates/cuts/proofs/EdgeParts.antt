@@ -18,9 +18,9 @@ use Rattle.cuts.proofs.Smallest.{kept_in}
 use Rattle.cuts.proofs.Standing.{any_in}
 use Rattle.cuts.proofs.EdgeLists.{edge_in, crossing_count}
 
-not_false : (b : Bool) → not b ≡ true → b ≡ false
-not_false true h = let z : ⊥ = true≢false (sym h) in absurd z
-not_false false h = refl
+not-false : (b : Bool) → not b ≡ true → b ≡ false
+not-false true h = let z : ⊥ = true≢false (sym h) in absurd z
+not-false false h = refl
 
 -- An edge with one end in a set stands among those that cross it.
 crossing_has : (g : Graph) → Simple g → (u : ℕ → Bool) (p q : ℕ) → u p ≡ true → u q ≡ false → g.joined p q ≡ true → has_edge (crossing_edges g u) p q ≡ true
@@ -56,7 +56,7 @@ module _ (g : Graph) (simple : Simple g) (a b : ℕ) (ha : a < g.order) where
       (λ p q hp hq up step.
       let s = and_parts (g.joined p q) (not (has_edge (crossing_edges g u) p q)) step in
       ⊎_elim (λ h. h)
-      (λ off. let z : ⊥ = true≢false (sym (crossing_has g simple u p q up off s.0) ∙ not_false (has_edge (crossing_edges g u) p q) s.1) in absurd z)
+      (λ off. let z : ⊥ = true≢false (sym (crossing_has g simple u p q up off s.0) ∙ not-false (has_edge (crossing_edges g u) p q) s.1) in absurd z)
       (cases_Bool (u q)))
 
   -- So they part a from what is outside.
@@ -66,7 +66,7 @@ module _ (g : Graph) (simple : Simple g) (a b : ℕ) (ha : a < g.order) where
 
   -- What a reaches without edges that part a and b lies between them.
   pub parted_between : (c : List Edge) → edges_part g a b c ≡ true → Between a b (λ q. linked (without_edges g c) a q)
-  parted_between c h = (reached_self g.order (without_edges g c).joined a ha, not_false (linked (without_edges g c) a b) h)
+  parted_between c h = (reached_self g.order (without_edges g c).joined a ha, not-false (linked (without_edges g c) a b) h)
 
   -- An edge that leaves what a reaches without c is one of c.
   pub leaving_has : (c : List Edge) (p q : ℕ) → linked (without_edges g c) a p ≡ true → linked (without_edges g c) a q ≡ false → g.joined p q ≡ true → has_edge c p q ≡ true

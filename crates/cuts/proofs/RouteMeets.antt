@@ -1,7 +1,7 @@
 -- Routes and a parting set: each route meets it, so of as many items as there are routes each
 -- lies on exactly one.
 use Rattle.std.proofs.Common.{◌≡◌, ℕ, ◌<◌, Bool, true, false, ◌&&◌, eqb, ◌⊎◌, List, [], ◌∷◌, sym, refl, ap, ◌∙◌, ap₂, inl, inr, ⊎_elim}
-use Rattle.std.proofs.lemmas.Bool.{cases_Bool, both_ways, eqb-true, eq-eqb, or_cases, or_left, or_right, or_from, and_parts, and_from, not_true, not_from_false}
+use Rattle.std.proofs.lemmas.Bool.{cases_Bool, both_ways, eqb-true, eq-eqb, or_cases, or_left, or_right, or_from, and_parts, and_from, not-true, not_from_false}
 use Rattle.std.proofs.lemmas.List.Elements.{All-weaker}
 use Rattle.graph.specs.Graph.{Graph, Simple}
 use Rattle.graph.proofs.Edges.{same_edge_ends}
@@ -64,7 +64,7 @@ module _ (g : Graph) (simple : Simple g) (a b : ℕ) (ha : a < g.order) where
   edge_met : (c : List Edge) → edges_part g a b c ≡ true → (xs : List ℕ) → Walk g.joined a b xs → any (λ e. edge_on xs e.low e.high) c ≡ true
   edge_met c part xs w =
       meets g.order g.joined (without_edges g c).joined a b xs (any on_it c) ha
-      (λ p q h. simple.bounded p q (and_parts (g.joined p q) _ h).0) (not_true _ part) w
+      (λ p q h. simple.bounded p q (and_parts (g.joined p q) _ h).0) (not-true _ part) w
       (λ off p q k j. and_from _ _ j (not_from_false _ (never_true (has_edge c p q) (λ h. both_ways _ off (any_wider (is_between p q) on_it (λ e. covers e p q k) c h)))))
     where
       on_it : Edge → Bool
@@ -81,7 +81,7 @@ module _ (g : Graph) (simple : Simple g) (a b : ℕ) (ha : a < g.order) where
   vertex_met : (c : List ℕ) → vertices_part g a b c ≡ true → (xs : List ℕ) → Walk g.joined a b xs → any (among xs) c ≡ true
   vertex_met c part xs w =
       meets g.order g.joined (without_vertices g c).joined a b xs (any (among xs) c) ha
-      (λ p q h. simple.bounded p q (and_parts (g.joined p q) _ h).0) (not_true _ part) w
+      (λ p q h. simple.bounded p q (and_parts (g.joined p q) _ h).0) (not-true _ part) w
       (λ off p q k j. let s = goes_among xs p q k in
       and_from _ _ j (not_from_false _ (or_from _ _ (clear off p s.0) (clear off q s.1))))
     where

@@ -1,7 +1,7 @@
 -- The border of a side: what a list of vertices that parts a and b must have, and the bound that
 -- a flow in the split digraph puts on it.
 use Rattle.std.proofs.Common.{◌≡◌, ℕ, ◌+◌, ◌<◌, ◌≤◌, Bool, true, false, not, ◌&&◌, ltb, List, length, sym, ap, ◌∙◌, ⊎_elim, arith}
-use Rattle.std.proofs.lemmas.Bool.{cases_Bool, cases_lt, both_ways, and_from, and_parts, not_true, not_from_false, lt-ltb, le-ltb}
+use Rattle.std.proofs.lemmas.Bool.{cases_Bool, cases_lt, both_ways, and_from, and_parts, not-true, not_from_false, lt-ltb, le-ltb}
 use Rattle.graph.specs.Graph.{Graph, Simple, count}
 use Rattle.flows.specs.Lists.{among}
 use Rattle.flows.specs.Reach.{reaches}
@@ -29,12 +29,12 @@ module _ (g : Graph) (a b : ℕ) (s : Simple g) (ha : a < g.order) (hb : b < g.o
 
   -- It does not have b.
   left_end : left b ≡ false
-  left_end = not_true _ part
+  left_end = not-true _ part
 
   -- None of it is in c.
   left_off : (q : ℕ) → left q ≡ true → among c q ≡ false
   left_off q h =
-      not_true _ (reached_least g.order (without_vertices g c).joined a ha (λ x. not (among c x)) (not_from_false _ (no_end g a b c sub).0)
+      not-true _ (reached_least g.order (without_vertices g c).joined a ha (λ x. not (among c x)) (not_from_false _ (no_end g a b c sub).0)
       (λ x y _ _ _ e. not_from_false _ (step_parts g c x y e).2) q h)
 
   -- Its border is in c.
@@ -44,7 +44,7 @@ module _ (g : Graph) (a b : ℕ) (s : Simple g) (ha : a < g.order) (hb : b < g.o
       let w = any_upto_from (λ p. left p && g.joined p q) g.order k.0 in
       let l = and_parts (left w.0) (g.joined w.0 q) w.2 in
       ⊎_elim (λ e. e)
-      (λ e. absurd (both_ways (left q) (not_true _ k.1)
+      (λ e. absurd (both_ways (left q) (not-true _ k.1)
       (reached_step g.order (without_vertices g c).joined a ha w.0 q (s.bounded w.0 q l.1).1 l.0 (step_from g c w.0 q l.1 (left_off w.0 l.0) e))))
       (cases_Bool (among c q))
 

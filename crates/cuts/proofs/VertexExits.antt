@@ -1,7 +1,7 @@
 -- No arc from an exit leaves the residual side of a stuck flow in the split digraph: the exit's
 -- one unit would go along that arc, and then nothing else could have led to the exit.
 use Rattle.std.proofs.Common.{◌≡◌, ℕ, ◌+◌, ◌<◌, ◌≤◌, Bool, true, false, not, ◌&&◌, eqb, sym, refl, ap, ◌∙◌, ap₂, ⊎_elim, arith}
-use Rattle.std.proofs.lemmas.Bool.{cases_Bool, cases_eq, both_ways, and_from, and_right, and_parts, or_right, or_cases, not_true, not_from_true, not_from_false, eq-eqb, ne_eqb}
+use Rattle.std.proofs.lemmas.Bool.{cases_Bool, cases_eq, both_ways, and_from, and_right, and_parts, or_right, or_cases, not-true, not_from_true, not_from_false, eq-eqb, ne_eqb}
 use Rattle.graph.specs.Graph.{Graph, Simple, count}
 use Rattle.graph.proofs.Counts.{count_one}
 use Rattle.flows.specs.Flow.{Flow, out, into, residual, residual_side}
@@ -80,7 +80,7 @@ module _ (g : Graph) (a b : ℕ) (s : Simple g) (ha : a < g.order) (hb : b < g.o
         (λ k. both_ways (side w) off (ap side (sym (only y h (ap (λ (x : ℕ). f x y) (sym i) ∙ k))) ∙ sy))
         (λ k. let l = and_parts ((split g a b).arc y z) (not (f y z)) k in
         let e = arc_to g a b y u (ap ((split g a b).arc y) (sym i) ∙ l.0) in
-        both_ways (f y z) (not_true _ l.1) (ap₂ f e i ∙ filled))
+        both_ways (f y z) (not-true _ l.1) (ap₂ f e i ∙ filled))
         (or_cases (f z y) ((split g a b).arc y z && not (f y z)) r)
 
     -- So the exit is not on the side after all.

@@ -2,7 +2,7 @@
 -- the same both ways, and at most the degree of either end.
 use Rattle.std.proofs.Common.{◌≡◌, ℕ, ◌<◌, ◌≤◌, Bool, true, false, not, ◌&&◌, ◌||◌, eqb, ltb, List, filter, sym, refl, ap, ◌∙◌, ap₂, arith}
 use mathlib.Core.Path.{fun_ext}
-use Rattle.std.proofs.lemmas.Bool.{both_ways, and_from, and_parts, or_from, or_parts, not_true, not_from_false, eqb-true, eq-eqb, ne_eqb, lt-ltb, ltb-true}
+use Rattle.std.proofs.lemmas.Bool.{both_ways, and_from, and_parts, or_from, or_parts, not-true, not_from_false, eqb-true, eq-eqb, ne_eqb, lt-ltb, ltb-true}
 use Rattle.graph.specs.Graph.{Graph, Simple, degree}
 use Rattle.flows.specs.Lists.{upto, among}
 use Rattle.flows.specs.Reach.{reaches}
@@ -24,7 +24,7 @@ or_swap a b = grind arith
 pub step_parts : (g : Graph) (c : List ℕ) (u v : ℕ) → (without_vertices g c).joined u v ≡ true → (g.joined u v ≡ true) × (among c u ≡ false) × (among c v ≡ false)
 step_parts g c u v e =
     let k = and_parts (g.joined u v) _ e in
-    let l = or_parts (among c u) (among c v) (not_true _ k.1) in
+    let l = or_parts (among c u) (among c v) (not-true _ k.1) in
     (k.0, l.0, l.1)
 
 -- And such an edge is a step.
@@ -35,7 +35,7 @@ step_from g c u v j x y = and_from _ _ j (not_from_false _ (or_from _ _ x y))
 pub others_are : (g : Graph) (a b v : ℕ) → among (others g a b) v ≡ true → (v < g.order) × (v ≡ a → ⊥) × (v ≡ b → ⊥)
 others_are g a b v m =
     let k = and_parts (ltb v g.order) _ (sym (among_filter (λ v. not (eqb v a || eqb v b)) g.order v) ∙ m) in
-    let l = or_parts (eqb v a) (eqb v b) (not_true _ k.1) in
+    let l = or_parts (eqb v a) (eqb v b) (not-true _ k.1) in
     (ltb-true v g.order k.0, (λ e. both_ways (eqb v a) l.0 (eq-eqb v a e)), (λ e. both_ways (eqb v b) l.1 (eq-eqb v b e)))
 
 -- A sublist of them has neither end.

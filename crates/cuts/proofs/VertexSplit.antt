@@ -5,7 +5,7 @@
 --   leaves_least     a set with a and without b is left by as many arcs as it has crossing vertices
 --   leaves_most      from a set of vertices: a set of nodes left only through what is next to it
 use Rattle.std.proofs.Common.{◌≡◌, ℕ, zero, suc, ◌+◌, ◌-◌, ◌<◌, ◌≤◌, Bool, true, false, cond, not, ◌&&◌, ◌||◌, eqb, ltb, ◌⊎◌, length, sym, refl, ap, ◌∙◌, inl, inr, ⊎_elim, arith}
-use Rattle.std.proofs.lemmas.Bool.{cases_Bool, cases_eq, both_ways, cond-true, cond-false, and_from, and_parts, or_left, or_right, or_cases, or_from, or_parts, not_true, not_from_false, eq-eqb, ne_eqb, eqb-true, ltb-true, ltb-false, lt-ltb, le-ltb}
+use Rattle.std.proofs.lemmas.Bool.{cases_Bool, cases_eq, both_ways, cond-true, cond-false, and_from, and_parts, or_left, or_right, or_cases, or_from, or_parts, not-true, not_from_false, eq-eqb, ne_eqb, eqb-true, ltb-true, ltb-false, lt-ltb, le-ltb}
 use Rattle.graph.specs.Graph.{Graph, Simple, count}
 use Rattle.graph.proofs.Counts.{count_ext, count_none, count_short}
 use Rattle.flows.specs.Lists.{upto, any}
@@ -43,14 +43,14 @@ module _ (g : Graph) (a b : ℕ) where
       ⊎_elim
       (λ h. let k = and_parts (ltb p g.order && not (is_end a b p)) (eqb q (g.order + p)) h in
       let l = and_parts (ltb p g.order) (not (is_end a b p)) k.0 in
-      let m = no_ends a b p (not_true _ l.1) in
+      let m = no_ends a b p (not-true _ l.1) in
       passes (ltb-true p g.order l.0) m.0 m.1 (eqb-true q (g.order + p) k.1))
       (λ h. let k = and_parts (ltb q g.order) _ h in
       ⊎_elim
       (λ low. let l = and_parts (is_end a b p) (g.joined p q) (sym (cond-true (ltb p g.order) _ _ low) ∙ k.1) in
       sets_out (an_end a b p l.0) (ltb-true p g.order low) (ltb-true q g.order k.0) l.1)
       (λ high. let l = and_parts (not (is_end a b (p - g.order))) (g.joined (p - g.order) q) (sym (cond-false (ltb p g.order) _ _ high) ∙ k.1) in
-      let m = no_ends a b (p - g.order) (not_true _ l.0) in
+      let m = no_ends a b (p - g.order) (not-true _ l.0) in
       let z = ltb-false p g.order high in
       goes_on (p - g.order) (omega arith) m.0 m.1 (ltb-true q g.order k.0) l.1)
       (cases_Bool (ltb p g.order)))
@@ -245,7 +245,7 @@ module _ (g : Graph) (a b : ℕ) (u : ℕ → Bool) where
               (λ p _. count_once (λ q. doubled p && (not (doubled q) && (split g a b).arc p q)) (n + n) (n + p) (ltb p n && border p)
               (λ q _ e. let k = and_parts (doubled p) _ e in
               let l = and_parts (not (doubled q)) _ k.1 in
-              one_way p q k.0 (not_true _ l.0) (arc_cases g a b p q l.1))),
+              one_way p q k.0 (not-true _ l.0) (arc_cases g a b p q l.1))),
           count_total (λ p. ltb p n && border p) (n + n),
           count_short (λ p. ltb p n && border p) n (n + n) (omega arith) (λ k l _. ap (λ (t : Bool). t && border k) (le-ltb k n l)),
           count_ext (λ p. ltb p n && border p) border n (λ k l. ap (λ (t : Bool). t && border k) (lt-ltb k n l)),

@@ -1,6 +1,8 @@
 // Cuts, values of pairs, connectivity, and the two computations of it: definitions and theorems.
 // There is next to nothing to run here: each function's contract is a theorem, and the crate is
 // refused without its proof.
+#![tactic(auto)]
+
 ghost use Rattle.cuts.specs.Pairs.{EdgeValueByFlow, NearestEdgeCut, VertexValueByFlow, NearestVertexCut, VertexValueLaws, VertexValueLeast};
 ghost use Rattle.cuts.specs.RouteRules.{EachEdgeOnOneRoute, EachVertexOnOneRoute, RoutesFit, VertexRoutesFit};
 

@@ -1,4 +1,6 @@
 // A whole session over each store, with its memory and capacity written out.
+#![tactic(auto)]
+
 ghost use Rattle.std.specs.Prelude.{ℕ, ◌-◌, ◌*◌, ◌/◌, true, length, IfOk, nat_le};
 ghost use Rattle.model.specs.Model.{Lent};
 ghost use Rattle.serve.specs.Served.{Served};

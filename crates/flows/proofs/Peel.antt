@@ -3,7 +3,7 @@
 use Rattle.std.proofs.Common.{◌≡◌, ℕ, zero, suc, ◌+◌, ◌*◌, ◌<◌, Bool, true, false, not, ◌&&◌, ◌||◌, eqb, List, [], ◌∷◌, sym, refl, ap, ◌∙◌, subst, inl, inr, arith}
 use mathlib.Core.Path.{fun_ext}
 use Rattle.std.proofs.lemmas.List.Elements.{All-weaker}
-use Rattle.std.proofs.lemmas.Bool.{cases_eq, cases_Bool, both_ways, eq-eqb, ne_eqb, and_parts, not_true}
+use Rattle.std.proofs.lemmas.Bool.{cases_eq, cases_Bool, both_ways, eq-eqb, ne_eqb, and_parts, not-true}
 use Rattle.std.proofs.lemmas.Bool.Decides.{nat_tests}
 use Rattle.flows.specs.Reach.{reaches}
 use Rattle.flows.specs.Routes.{Walk, Apart, Route, goes}
@@ -106,7 +106,7 @@ module _ (d : Digraph) (s t : ℕ) (sound : Sound d) (hs : s < d.nodes) (st : s 
       }
     where
       clear : (ys : List ℕ) → Walk (without f xs) s t ys → ArcDisjoint xs ys
-      clear ys k p q e = never_true _ (λ h. both_ways (goes xs p q) (not_true _ (and_parts (f p q) _ (walk_goes (without f xs) s t ys k p q h)).1) e)
+      clear ys k p q e = never_true _ (λ h. both_ways (goes xs p q) (not-true _ (and_parts (f p q) _ (walk_goes (without f xs) s t ys k p q h)).1) e)
 
   peel : (v : ℕ) (f : ℕ → ℕ → Bool) → Flow d s t f v → Peeled f s t v
   peel zero f fl = record { routes = []; many = refl; each = tt; disjoint = tt }

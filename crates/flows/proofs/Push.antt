@@ -1,7 +1,7 @@
 -- Pushing along a residual route adds one: a flow that is balanced but for one unit is carried
 -- from s to t, one step at a time.
 use Rattle.std.proofs.Common.{◌≡◌, ℕ, ◌+◌, ◌*◌, ◌<◌, Bool, true, false, not, ◌&&◌, ◌||◌, eqb, ◌⊎◌, List, [], ◌∷◌, sym, refl, ap, ◌∙◌, ap₂, inl, inr, arith}
-use Rattle.std.proofs.lemmas.Bool.{cases_eq, cases_Bool, both_ways, eq-eqb, ne_eqb, or_cases, and_parts, not_true, cond-true, cond-false}
+use Rattle.std.proofs.lemmas.Bool.{cases_eq, cases_Bool, both_ways, eq-eqb, ne_eqb, or_cases, and_parts, not-true, cond-true, cond-false}
 use Rattle.flows.specs.Routes.{Walk, Apart}
 use Rattle.flows.specs.Flow.{Digraph, Sound, Flow, out, into, residual, stepped, pushed, PushAddsOne}
 use Rattle.flows.proofs.Lists.{among_off, never_true}
@@ -61,7 +61,7 @@ module _ (d : Digraph) (s t : ℕ) (f : ℕ → ℕ → Bool) (v x y : ℕ) (k :
               | inl a ↦ absurd (both_ways (f y x) h a)
               | inr a ↦
                   (let c = and_parts (d.arc x y) (not (f x y)) a in
-                  rw (cond-false (f y x) (lacking f y x) (having f x y) h) (carry_on c.0 (not_true (f x y) c.1) h))
+                  rw (cond-false (f y x) (lacking f y x) (having f x y) h) (carry_on c.0 (not-true (f x y) c.1) h))
             ])
       ]
 
@@ -78,7 +78,7 @@ stepped_off f x y p q c i j =
 -- A residual step goes where the flow may be changed.
 residual_free : (d : Digraph) (f : ℕ → ℕ → Bool) (x y : ℕ) → residual d f x y ≡ true → f x y ≡ false ⊎ (f y x ≡ true)
 residual_free d f x y e =
-    elim (or_cases (f y x) (d.arc x y && not (f x y)) e) [ inl h ↦ inr h | inr h ↦ inl (not_true (f x y) (and_parts (d.arc x y) _ h).1) ]
+    elim (or_cases (f y x) (d.arc x y && not (f x y)) e) [ inl h ↦ inr h | inr h ↦ inl (not-true (f x y) (and_parts (d.arc x y) _ h).1) ]
 
 -- Where two flows agree both ways, so do their residual steps.
 residual_same : (d : Digraph) (f h : ℕ → ℕ → Bool) (p q : ℕ) → h p q ≡ f p q → h q p ≡ f q p → residual d h p q ≡ residual d f p q

@@ -1,5 +1,7 @@
 // Reaching, routes and unit flows on digraphs: definitions and theorems. There is nothing to
 // run here: each function's contract is a theorem, and the crate is refused without its proof.
+#![tactic(auto)]
+
 ghost use Rattle.flows.specs.Routes.{ReachedByRoute};
 ghost use Rattle.flows.specs.Flow.{FlowBalance, FlowBound, LargestFlow, PushAddsOne, MostExists, FlowPeels};
 

@@ -1,6 +1,8 @@
 // The frame format: hexadecimal lines in, hexadecimal lines out. Reading and writing are
 // proved equal to the definitions in specs/. A frame comes in through three layers, each
 // with a fault of its own: digits, frame, call.
+#![tactic(auto)]
+
 mod bytes;
 mod fault;
 mod frame;

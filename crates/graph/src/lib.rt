@@ -1,5 +1,7 @@
 // Graphs in specifications: their definitions and first theorems. There is nothing to run
 // here: each function's contract is a theorem, and the crate is refused without its proof.
+#![tactic(auto)]
+
 ghost use Rattle.graph.specs.Laws.{OneEdgeMore, OneEdgeLess, FewEdges};
 
 // A new edge keeps a graph simple and raises the number of edges by one.

@@ -1,6 +1,8 @@
 // A store of a map as a grid of bits over lent words: four words for each vertex, and bit v of
 // u's four says whether an edge joins u and v. So an edge is two bits, and every question about
 // a vertex reads the four words of its row alone.
+#![tactic(auto)]
+
 mod rows;
 mod words;
 

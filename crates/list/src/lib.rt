@@ -1,4 +1,6 @@
 // A store of a map as a list: the cells in use hold one number an edge, in ascending order.
+#![tactic(auto)]
+
 ghost use Rattle.std.specs.Prelude.{◌≡◌, ℕ, ◌≤◌, length};
 ghost use Rattle.graph.specs.Graph.{order_limit, edges};
 ghost use Rattle.list.specs.Cells.{Rising, listing};

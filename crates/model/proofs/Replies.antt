@@ -92,9 +92,9 @@ smallest_first_lem lent s c = (
   λ e q. none_fitting (fits lent s c) checking_order e q (listed q),
 )
 
-not_true : (b : Bool) → not b ≡ false → b ≡ true
-not_true true h = refl
-not_true false h = let z : ⊥ = true≢false h in absurd z
+not-true : (b : Bool) → not b ≡ false → b ≡ true
+not-true true h = refl
+not-true false h = let z : ⊥ = true≢false h in absurd z
 
 pub exactly_when : ExactlyWhen
 exactly_when g capacity u v = (join_only, join_if, part_only, part_if)
@@ -102,7 +102,7 @@ exactly_when g capacity u v = (join_only, join_if, part_only, part_if)
     join_only : reply_on (bare g capacity) (Join u v) ≡ Ok tt → JoinAccepted g capacity u v
     join_only e =
         let none = (smallest_first_lem nothing (made (bare g capacity)) (Join u v)).1 e in
-        let b = and_parts (ltb u g.order) (ltb v g.order) (not_true (ltb u g.order && ltb v g.order) (none NoVertex)) in
+        let b = and_parts (ltb u g.order) (ltb v g.order) (not-true (ltb u g.order && ltb v g.order) (none NoVertex)) in
         (ltb-true u g.order b.0, ltb-true v g.order b.1, eqb-false u v (none SameVertex), none IsJoined, leb-false capacity (edges g) (none NoRoom))
 
     join_if : JoinAccepted g capacity u v → reply_on (bare g capacity) (Join u v) ≡ Ok tt
@@ -111,8 +111,8 @@ exactly_when g capacity u v = (join_only, join_if, part_only, part_if)
     part_only : reply_on (bare g capacity) (Part u v) ≡ Ok tt → PartAccepted g u v
     part_only e =
         let none = (smallest_first_lem nothing (made (bare g capacity)) (Part u v)).1 e in
-        let b = and_parts (ltb u g.order) (ltb v g.order) (not_true (ltb u g.order && ltb v g.order) (none NoVertex)) in
-        (ltb-true u g.order b.0, ltb-true v g.order b.1, eqb-false u v (none SameVertex), not_true (g.joined u v) (none NotJoined))
+        let b = and_parts (ltb u g.order) (ltb v g.order) (not-true (ltb u g.order && ltb v g.order) (none NoVertex)) in
+        (ltb-true u g.order b.0, ltb-true v g.order b.1, eqb-false u v (none SameVertex), not-true (g.joined u v) (none NotJoined))
 
     part_if : PartAccepted g u v → reply_on (bare g capacity) (Part u v) ≡ Ok tt
     part_if h = rw (lt-ltb u g.order h.0, lt-ltb v g.order h.1, ne_eqb u v h.2, h.3)

@@ -1,5 +1,7 @@
 // The calls of a session, what they answer, why they are refused, and, in specs/, the
 // reference model that says which of these is right. Nothing here holds a map.
+#![tactic(auto)]
+
 ghost use Rattle.model.specs.Meaning.{SmallestFirst, ExactlyWhen};
 
 mod call;

@@ -1,5 +1,7 @@
 // Tests of what a planner says of pairs of vertices: values and nearest cuts of the check maps,
 // and refusals, over each store.
+#![tactic(auto)]
+
 #[cfg(test)]
 mod asking;
 #[cfg(test)]

@@ -1,6 +1,8 @@
 // Adds up what is asked of the pairs of a map: the first eight vertices against each later one,
 // by edges, and by vertices where the two are not joined. The map is made by frames on standard
 // input; a line of five sums is printed.
+#![tactic(auto)]
+
 use connectivity::{CELLS, NUMBERS, WORDS, Work};
 use cuts::Edge;
 use frames::read_call;

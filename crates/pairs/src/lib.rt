@@ -1,6 +1,8 @@
 // What is asked about a pair of vertices of a planner's graph in force. The planner lies below two
 // plans, of its edges and of its vertices, for its whole life: nothing is copied or built anew, and
 // edits go down by the fields of the pile.
+#![tactic(auto)]
+
 ghost use Rattle.std.specs.Prelude.{◌≡◌, false, is_ok};
 ghost use Rattle.model.specs.Model.{in_force};
 ghost use Rattle.cuts.specs.Cuts.{nearest_edge_cut, nearest_vertex_cut};

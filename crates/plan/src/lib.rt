@@ -1,6 +1,8 @@
 // A plan is a digraph that answers questions. A search walks a plan and knows nothing of the
 // map below it: `Line` reads each edge of a map as two arcs, `Split` gives each vertex but two
 // ends an arc of its own, so that cuts of vertices become cuts of arcs.
+#![tactic(auto)]
+
 ghost use Rattle.std.specs.Prelude.{◌≡◌, ℕ, ◌<◌, ◌≤◌, Bool, false, List, length, ◌≢◌};
 ghost use Rattle.flows.specs.Flow.{Digraph, Sound, Flow, residual_side};
 ghost use Rattle.rows.specs.Marks.{marked};

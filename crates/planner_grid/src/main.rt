@@ -1,4 +1,6 @@
 // The planner over a grid: frames on standard input, answers on standard output.
+#![tactic(auto)]
+
 use delivery::over_grid;
 use std::io::{Read, Write};
 

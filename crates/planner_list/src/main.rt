@@ -1,4 +1,6 @@
 // The planner over a list: frames on standard input, answers on standard output.
+#![tactic(auto)]
+
 use delivery::over_list;
 use std::io::{Read, Write};
 

@@ -1,5 +1,7 @@
 // A queue, first in, first out, of any kind of items, over slots that it is lent. The
 // slots are used in a circle: behind the last comes the first again.
+#![tactic(auto)]
+
 ghost use Rattle.std.specs.Prelude.{◌≡◌, ◌<◌, ◌≤◌, length};
 ghost use Rattle.ring.specs.Items.{ring_items};
 

@@ -1,6 +1,6 @@
 -- Numbers that pass a test and are not marked, and how a scan for the lowest of them goes on.
 use Rattle.std.proofs.Common.{◌≡◌, ℕ, ◌+◌, ◌-◌, ◌<◌, ◌≤◌, Bool, true, false, not, Some, None, sym, ap, ◌∙◌, ⊎_elim, arith}
-use Rattle.std.proofs.lemmas.Bool.{cases_lt, and_parts, and_from, and_left, and_right, not_true, not_false, not_from_true, not_from_false}
+use Rattle.std.proofs.lemmas.Bool.{cases_lt, and_parts, and_from, and_left, and_right, not-true, not-false, not_from_true, not_from_false}
 use Rattle.graph.specs.Graph.{first}
 use Rattle.graph.proofs.Firsts.{Found, first_found, first_missing, first_some, first_all}
 use Rattle.flows.specs.Flow.{Digraph}
@@ -26,7 +26,7 @@ module _ (m test : ℕ → Bool) where
   -- What is fresh is not marked, and passes the test.
   pub fresh_parts : (k : ℕ) → fresh m test k ≡ true → (m k ≡ false) × (test k ≡ true)
   unfolding fresh
-  fresh_parts k h = let e = and_parts (not (m k)) (test k) h in (not_true (m k) e.0, e.1)
+  fresh_parts k h = let e = and_parts (not (m k)) (test k) h in (not-true (m k) e.0, e.1)
 
   -- What passes the test and is not fresh is marked.
   pub fresh_done : (k : ℕ) → fresh m test k ≡ false → test k ≡ true → m k ≡ true
@@ -76,7 +76,7 @@ module _ {base test m : ℕ → Bool} {w v : ℕ} (s : Scan m test w v) (only : 
   -- That number is marked, and so are all from it up to u.
   pub leap : {e n q u : ℕ} → Found base v e q → m q ≡ true → Found (λ k. not (m k)) (q + 1) n u → Scan m test w u
   leap {q = q} f h g =
-      scan_on (on f (fresh_marked m test q h)) g.from (λ k a b. fresh_marked m test k (not_false (m k) (g.none k a b)))
+      scan_on (on f (fresh_marked m test q h)) g.from (λ k a b. fresh_marked m test k (not-false (m k) (g.none k a b)))
 
   -- That number is marked, and so are all above it.
   pub leap_none : {e n q : ℕ} → Found base v e q → m q ≡ true → ((k : ℕ) → q + 1 ≤ k → k < n → not (m k) ≡ false)
@@ -84,7 +84,7 @@ module _ {base test m : ℕ → Bool} {w v : ℕ} (s : Scan m test w v) (only : 
   leap_none {n = n} {q = q} f h g =
       let t = on f (fresh_marked m test q h) in
       first_missing (fresh m test) w n
-      (λ k a b. ⊎_elim (λ c. t.none k a c) (λ c. fresh_marked m test k (not_false (m k) (g k c b))) (cases_lt k (q + 1)))
+      (λ k a b. ⊎_elim (λ c. t.none k a c) (λ c. fresh_marked m test k (not-false (m k) (g k c b))) (cases_lt k (q + 1)))
 
 module _ (d : Digraph) (f : ℕ → ℕ → Bool) (p q : ℕ) where
   -- Where no arc leads, none with room does.

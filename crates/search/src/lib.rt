@@ -2,6 +2,8 @@
 // leaving off the moment the goal is reached, or, without a goal, sweeps all that is reached.
 // Three questions stay apart: which arc comes next, whether its node is marked, and whether the
 // flow leaves room on it.
+#![tactic(auto)]
+
 ghost use Rattle.std.specs.Prelude.{◌≡◌, ℕ, ◌<◌, ◌≤◌, true, false, length, IfSome, MatchOption, ◌≢◌};
 ghost use Rattle.flows.specs.Flow.{residual, residual_side};
 ghost use Rattle.rows.specs.Flow.{carried};

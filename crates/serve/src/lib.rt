@@ -1,5 +1,7 @@
 // A whole session on bytes: frames in, a line each, and the text of the replies out. This is
 // what the programs run, over any store.
+#![tactic(auto)]
+
 mod line;
 mod whole;
 

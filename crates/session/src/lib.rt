@@ -1,5 +1,7 @@
 // A planner keeps the map of a session in any store, and keeps to the reference model: every
 // call is answered as the model says, and the graph in force is the model's.
+#![tactic(auto)]
+
 ghost use Rattle.std.specs.Prelude.{◌≡◌, false, List, [], ◌∷◌, ◌++◌, is_ok, if◌then◌else◌, Ok, Err, MatchResult};
 ghost use Rattle.model.specs.Model.{Lent, unmade, made, blank, in_force};
 ghost use Rattle.model.specs.Table.{reply, bad_order};

@@ -1,5 +1,7 @@
 // What a store of a map promises: `Map` answers questions, `Editable` takes edges in and out.
 // Every value of such a type means a simple graph, and all contracts are about that graph.
+#![tactic(auto)]
+
 ghost use Rattle.std.specs.Prelude.{◌≡◌, ℕ, false, is_ok, Ok};
 ghost use Rattle.graph.specs.Graph.{Graph, Simple, degree, next, empty};
 ghost use Rattle.model.specs.Model.{Lent, unmade, bare};

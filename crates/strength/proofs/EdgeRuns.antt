@@ -2,7 +2,7 @@
 -- is left by fewer edges than the least of their values and of the degrees.
 use Rattle.std.proofs.Common.{◌≡◌, ℕ, ◌-◌, ◌/◌, ◌<◌, ◌≤◌, Bool, true, false, not, eqb, ltb, List, [], ◌∷◌, map, length, sym, refl, ap, ◌∙◌, subst, inl, inr, arith}
 use Rattle.std.proofs.lemmas.List.{length-map}
-use Rattle.std.proofs.lemmas.Bool.{not_true, not_from_true, not_from_false, cases_eq, cases_lt, cases_Bool, both_ways, cond_both, ltb-true, eq-eqb, eqb-true}
+use Rattle.std.proofs.lemmas.Bool.{not-true, not_from_true, not_from_false, cases_eq, cases_lt, cases_Bool, both_ways, cond_both, ltb-true, eq-eqb, eqb-true}
 use Rattle.graph.specs.Graph.{Graph, Simple, degree}
 use Rattle.graph.proofs.Edges.{few_edges_lem}
 use Rattle.flows.specs.Lists.{upto, among}
@@ -113,7 +113,7 @@ module _ (g : Graph) (ok : Simple g) where
             (elim (cases_Bool (u v)) [
               | inl uv ↦
                   (let m = meets g ok (among (v ∷ ws)) (λ x. not (u x)) dom k low (omega (arith, leaving_not g ok u)) q hq (not_from_false _ uq) in
-                  let out = not_true _ m.3 in
+                  let out = not-true _ m.3 in
                   let i = other v m.0 ws u m.2 uv out in
                   omega (arith, run_least g (least_degree g) v m.0 ws i, value_below g ok u v m.0 (below v (among_head v ws)) uv out))
               | inr uv ↦

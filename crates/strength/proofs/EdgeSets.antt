@@ -1,7 +1,7 @@
 -- Sets of vertices and the edges that leave them: a set left by fewer edges than any vertex has
 -- holds a vertex with no neighbour outside, so each dominating set meets it.
 use Rattle.std.proofs.Common.{◌≡◌, ℕ, zero, suc, ◌+◌, ◌<◌, ◌≤◌, Bool, true, false, cond, not, ◌&&◌, eqb, ◌⊎◌, sym, ap, ◌∙◌, inl, inr, arith}
-use Rattle.std.proofs.lemmas.Bool.{cases_eq, cases_Bool, both_ways, and_from, and_parts, not_true, not_from_false, ne_eqb}
+use Rattle.std.proofs.lemmas.Bool.{cases_eq, cases_Bool, both_ways, and_from, and_parts, not-true, not_from_false, ne_eqb}
 use Rattle.graph.specs.Graph.{Graph, Simple, count, degree}
 use Rattle.flows.specs.Lists.{upto, any}
 use Rattle.flows.specs.Flow.{total, leaving}
@@ -123,7 +123,7 @@ module _ (g : Graph) (ok : Simple g) where
             let c = and_parts (u w.0) _ w.2 in
             elim (dom w.0 w.1) [
               | inl sp ↦ (w.0, w.1, sp, c.0)
-              | inr q ↦ (q.0, q.1, q.2, home w.0 q.0 q.1 q.3 (not_true _ c.1))
+              | inr q ↦ (q.0, q.1, q.2, home w.0 q.0 q.1 q.3 (not-true _ c.1))
             ])
         | inr e ↦ absurd (omega (arith, crowded u (all_border e) x h ux, deg x h))
       ]

@@ -1,7 +1,7 @@
 -- Edge values and edge connectivity against sets of vertices: a value is no more than what leaves
 -- a set between the two, it is met by a cut, and no value is below the connectivity.
 use Rattle.std.proofs.Common.{◌≡◌, ℕ, ◌<◌, ◌≤◌, Bool, true, false, eqb, List, length, sym, refl, ◌∙◌, arith}
-use Rattle.std.proofs.lemmas.Bool.{both_ways, not_true, not_from_false, eq-eqb, ne_eqb, ltb-true}
+use Rattle.std.proofs.lemmas.Bool.{both_ways, not-true, not_from_false, eq-eqb, ne_eqb, ltb-true}
 use Rattle.graph.specs.Graph.{Graph, Simple, degree}
 use Rattle.flows.specs.Lists.{upto, among}
 use Rattle.flows.specs.Flow.{leaving}
@@ -41,13 +41,13 @@ module _ (g : Graph) (ok : Simple g) where
   pub parts_cut : (c : List Edge) (a b : ℕ) → a < g.order → b < g.order → edges_part g a b c ≡ true → is_edge_cut g c ≡ true
   parts_cut c a b ha hb e =
       any_upto_at _ g.order a ha
-      (not_from_false _ (never_true _ (λ h. both_ways (among (side (without_edges g c) a) b) (not_true _ e) (all_upto_at _ g.order h b hb))))
+      (not_from_false _ (never_true _ (λ h. both_ways (among (side (without_edges g c) a) b) (not-true _ e) (all_upto_at _ g.order h b hb))))
 
   -- An edge cut parts two vertices.
   pub cut_parts : (c : List Edge) → is_edge_cut g c ≡ true → (a : ℕ) × (b : ℕ) × (a < g.order) × (b < g.order) × (edges_part g a b c ≡ true)
   cut_parts c e =
       let w = any_upto_from _ g.order e in
-      let z = all_off (among (side (without_edges g c) w.0)) (upto g.order) (not_true _ w.2) in
+      let z = all_off (among (side (without_edges g c) w.0)) (upto g.order) (not-true _ w.2) in
       (w.0, z.0, w.1, ltb-true z.0 g.order (sym (among_upto g.order z.0) ∙ z.1), not_from_false _ z.2)
 
   -- The connectivity is no more than any value.

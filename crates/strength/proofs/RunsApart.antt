@@ -3,7 +3,7 @@
 -- neighbour of r, and no earlier run starts at a neighbour of r from w up.
 use Rattle.std.proofs.Common.{◌≡◌, ℕ, zero, suc, ◌+◌, ◌-◌, ◌<◌, true, false, not, ◌||◌, eqb, List, [], ◌∷◌, ◌++◌, map, take, filter, sym, refl, ap, ◌∙◌, subst, inl, inr, arith}
 use Rattle.std.proofs.lemmas.List.Elements.{All-append}
-use Rattle.std.proofs.lemmas.Bool.{both_ways, or_parts, not_true, eq-eqb}
+use Rattle.std.proofs.lemmas.Bool.{both_ways, or_parts, not-true, eq-eqb}
 use Rattle.graph.specs.Graph.{Graph, Simple, same_edge}
 use Rattle.graph.proofs.Edges.{same_edge_ends}
 use Rattle.flows.specs.Lists.{upto}
@@ -53,7 +53,7 @@ far_apart : (g : Graph) (r : ℕ) → Pairwise Differ (far_runs g r)
 far_apart g r =
     one_start g r (filter (λ v. not (eqb v r || g.joined r v)) (upto g.order))
     (distinct_kept (λ v. not (eqb v r || g.joined r v)) (upto g.order) (distinct_upto g.order))
-    (λ b i e. both_ways _ (or_parts (eqb b r) (g.joined r b) (not_true _ (kept_out (λ v. not (eqb v r || g.joined r v)) b (upto g.order) i).1)).0 (eq-eqb b r e))
+    (λ b i e. both_ways _ (or_parts (eqb b r) (g.joined r b) (not-true _ (kept_out (λ v. not (eqb v r || g.joined r v)) b (upto g.order) i).1)).0 (eq-eqb b r e))
 
 -- Each of them starts at r.
 far_start : (g : Graph) (r : ℕ) (run : Run) → In run (far_runs g r) → run.from ≡ r

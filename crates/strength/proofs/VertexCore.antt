@@ -1,7 +1,7 @@
 -- The core of the vertex computation. Where every smallest separation has r, a vertex of least
 -- degree, two early neighbours of r lie on its two sides.
 use Rattle.std.proofs.Common.{◌≡◌, ℕ, ◌<◌, ◌≤◌, Bool, true, false, not, ◌&&◌, eqb, sym, ap, ◌∙◌, inl, inr, arith}
-use Rattle.std.proofs.lemmas.Bool.{cases_eq, cases_Bool, both_ways, and_parts, and_from, or_parts, or_from, not_true, eq-eqb, ne_eqb}
+use Rattle.std.proofs.lemmas.Bool.{cases_eq, cases_Bool, both_ways, and_parts, and_from, or_parts, or_from, not-true, eq-eqb, ne_eqb}
 use Rattle.graph.specs.Graph.{Graph, Simple, count, degree}
 use Rattle.strength.proofs.EdgeSets.{count_weaker}
 use Rattle.strength.proofs.VertexCounts.{seek}
@@ -73,7 +73,7 @@ module _ (g : Graph) (s : Simple g) (S L : ℕ → Bool) (r : ℕ) (pin : Pinned
       there_out = less_off L x k.there k.there_out;
       disjoint = λ v h.
           let q = and_parts (L v) _ h in
-          or_from _ _ (less_off S r v (k.disjoint v q.0)) (not_true _ q.1);
+          or_from _ _ (less_off S r v (k.disjoint v q.0)) (not-true _ q.1);
       closed = λ u v h j off.
           let q = and_parts (L u) _ h in
           let o = or_parts (less S r v) (eqb v x) off in
@@ -91,7 +91,7 @@ module _ (g : Graph) (s : Simple g) (S L : ℕ → Bool) (r : ℕ) (pin : Pinned
         elim (seek (λ z. less L x z) g.order) [
           | inl w ↦
               (let q = and_parts (L w.0) _ w.2 in
-              let c = changed w.0 w.1 q.0 (λ e. both_ways _ (not_true _ q.1) (eq-eqb w.0 x e)) in
+              let c = changed w.0 w.1 q.0 (λ e. both_ways _ (not-true _ q.1) (eq-eqb w.0 x e)) in
               both_ways _ (or_from _ _ (less_here S r) (ne_eqb r x (λ e. both_ways _ (k.disjoint x lx) (ap S (sym e) ∙ pin.inside)))) (pin.every (swapped S r x) (less L x) c same))
           | inr none ↦
               (let few = count_weaker (g.joined x) S g.order (λ v lv j. kept none v lv j) in
@@ -120,7 +120,7 @@ module _ (g : Graph) (s : Simple g) (S L : ℕ → Bool) (r : ℕ) (pin : Pinned
             record {
               one = w.0;
               other = z.0;
-              differ = λ e. both_ways _ (not_true _ a.1) (eq-eqb z.0 w.0 (sym e));
+              differ = λ e. both_ways _ (not-true _ a.1) (eq-eqb z.0 w.0 (sym e));
               one_joined = q.0;
               other_joined = b.0;
               one_in = q.1;

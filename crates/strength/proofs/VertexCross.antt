@@ -2,7 +2,7 @@
 -- later one, but not the last, on the other. The number of neighbours of r below a vertex is
 -- its place among them.
 use Rattle.std.proofs.Common.{◌≡◌, ℕ, ◌+◌, ◌<◌, ◌≤◌, Bool, true, false, not, ◌&&◌, sym, ap, ◌∙◌, inl, inr, arith}
-use Rattle.std.proofs.lemmas.Bool.{cases_eq, cases_lt, cases_Bool, both_ways, and_parts, and_from, not_true, not_from_false}
+use Rattle.std.proofs.lemmas.Bool.{cases_eq, cases_lt, cases_Bool, both_ways, and_parts, and_from, not-true, not_from_false}
 use Rattle.graph.specs.Graph.{Graph, Simple, count, degree}
 use Rattle.graph.proofs.Counts.{count_ext}
 use Rattle.strength.proofs.EdgeSets.{count_weaker}
@@ -131,7 +131,7 @@ module _ (g : Graph) (s : Simple g) (S : ℕ → Bool) (r : ℕ) (pin : Pinned g
             (let q = and_parts (g.joined r w.0) _ w.2 in
             elim (cases_Bool (L w.0)) [
               | inl e ↦ from_first L k w.0 q.0 e w.3
-              | inr e ↦ from_first (rest S L) (turned g s S L k) w.0 q.0 (rest_from S L w.0 e (not_true _ q.1)) w.3
+              | inr e ↦ from_first (rest S L) (turned g s S L k) w.0 q.0 (rest_from S L w.0 e (not-true _ q.1)) w.3
             ])
         | inr none ↦
             (let t = two_neighbours g s S L r pin k in

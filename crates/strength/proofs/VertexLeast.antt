@@ -1,6 +1,6 @@
 -- The connectivity and the values as the least sizes of separations.
 use Rattle.std.proofs.Common.{◌≡◌, ℕ, ◌<◌, ◌≤◌, Bool, true, false, not, ◌||◌, eqb, filter, sym, refl, ap, ◌∙◌, inl, inr, arith}
-use Rattle.std.proofs.lemmas.Bool.{both_ways, and_parts, and_from, or_cases, or_parts, or_from, not_true, not_from_false, eq-eqb, ne_eqb, eqb-true, lt-ltb, ltb-true}
+use Rattle.std.proofs.lemmas.Bool.{both_ways, and_parts, and_from, or_cases, or_parts, or_from, not-true, not_from_false, eq-eqb, ne_eqb, eqb-true, lt-ltb, ltb-true}
 use Rattle.graph.specs.Graph.{Graph, Simple, count}
 use Rattle.flows.specs.Lists.{upto, all, among}
 use Rattle.flows.proofs.Lists.{never_true, among_upto, among_kept, all_upto_at}
@@ -46,7 +46,7 @@ cut_met g s S L k =
 others_parts : (g : Graph) (a b v : ℕ) → among (others g a b) v ≡ true → (v < g.order) × (v ≡ a → ⊥) × (v ≡ b → ⊥)
 others_parts g a b v h =
     let k = and_parts (among (upto g.order) v) _ (sym (among_kept (λ v. not (eqb v a || eqb v b)) (upto g.order) v) ∙ h) in
-    let o = or_parts (eqb v a) (eqb v b) (not_true _ k.1) in
+    let o = or_parts (eqb v a) (eqb v b) (not-true _ k.1) in
     (ltb-true v g.order (sym (among_upto g.order v) ∙ k.0), (λ e. both_ways _ o.0 (eq-eqb v a e)), (λ e. both_ways _ o.1 (eq-eqb v b e)))
 
 -- A vertex that is neither a nor b is one of the others.
@@ -87,7 +87,7 @@ value_most g s a b la lb ne off =
     (part_by g (g.joined a) (λ v. eqb v a) k a b la (eq-eqb a a refl) (ne_eqb b a (λ e. ne (sym e))) off) in
     let ma : among d.0 a ≡ false = never_true _ (λ h. (others_parts g a b a (sub_among d.1 a h)).1 refl) in
     let mb : among d.0 b ≡ false = never_true _ (λ h. (others_parts g a b b (sub_among d.1 b h)).2 refl) in
-    let m = list_separates g s d.0 a b la lb ma mb (not_true _ d.2) in
+    let m = list_separates g s d.0 a b la lb ma mb (not-true _ d.2) in
     omega (arith, cut_least g (among d.0) _ m, count_among d.0 g.order, d.3)
 
 -- A graph that is not complete has a separation.

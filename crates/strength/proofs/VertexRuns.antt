@@ -2,7 +2,7 @@
 -- unjoined vertices; a pair of early neighbours with value k is run unless the least value is k
 -- by then; and so there are few.
 use Rattle.std.proofs.Common.{◌≡◌, ℕ, zero, suc, ◌+◌, ◌-◌, ◌<◌, ◌≤◌, Bool, true, false, not, ◌&&◌, leb, ◌⊎◌, List, [], ◌∷◌, ◌++◌, take, filter, sym, refl, ap, ◌∙◌, subst, ap₂, inl, inr, arith}
-use Rattle.std.proofs.lemmas.Bool.{cases_eq, cases_Bool, both_ways, and_cases, not_true, not_from_false, cond-true, cond-false, leb-false}
+use Rattle.std.proofs.lemmas.Bool.{cases_eq, cases_Bool, both_ways, and_cases, not-true, not_from_false, cond-true, cond-false, leb-false}
 use Rattle.graph.specs.Graph.{Graph, Simple, count}
 use Rattle.cuts.specs.Cuts.{vertex_value}
 use Rattle.cuts.specs.Computations.{Run, least_value, near_runs, more_runs}
@@ -114,7 +114,7 @@ module _ (g : Graph) (s : Simple g) (r δ : ℕ) where
       let q = kept_out (g.joined r) c.0 (up (suc w) m) (in_front c.0 (δ - 1 - place w) (filter (g.joined r) (up (suc w) m)) k.0) in
       let u = in_up (suc w) m c.0 q.0 in
       subst (Fair g) (sym c.2)
-      (record { from_below = omega arith; to_below = omega (arith, u.1); differ = λ x. omega (arith, u.0); unjoined = not_true _ k.1; worth = refl })
+      (record { from_below = omega arith; to_below = omega (arith, u.1); differ = λ x. omega (arith, u.0); unjoined = not-true _ k.1; worth = refl })
 
   -- So is each run of all the rounds.
   pub rounds_fair : (m w : ℕ) (runs : List Run) → w + m ≡ g.order → Fairs g runs → Fairs g (rounds_from w m runs)

@@ -2,7 +2,7 @@
 -- sides of a smallest one that has r each have two neighbours of r, where r has least degree
 -- and every smallest one has r.
 use Rattle.std.proofs.Common.{◌≡◌, ℕ, ◌+◌, ◌<◌, ◌≤◌, Bool, true, false, not, ◌&&◌, ◌||◌, eqb, sym, refl, ap, ◌∙◌, inl, inr, arith}
-use Rattle.std.proofs.lemmas.Bool.{cases_Bool, both_ways, and_parts, and_from, and_right, or_cases, or_parts, or_left, or_right, or_from, not_true, not_false, not_from_true, not_from_false, eq-eqb, ne_eqb, eqb-true}
+use Rattle.std.proofs.lemmas.Bool.{cases_Bool, both_ways, and_parts, and_from, and_right, or_cases, or_parts, or_left, or_right, or_from, not-true, not-false, not_from_true, not_from_false, eq-eqb, ne_eqb, eqb-true}
 use Rattle.graph.specs.Graph.{Graph, Simple, count, degree}
 use Rattle.graph.proofs.Counts.{count_most, count_one}
 use Rattle.flows.proofs.Lists.{never_true}
@@ -30,7 +30,7 @@ rest_from S L v a b = and_from _ _ (not_from_false _ a) (not_from_false _ b)
 
 -- What is on the other side is neither.
 pub rest_parts : (S L : ℕ → Bool) (v : ℕ) → rest S L v ≡ true → (L v ≡ false) × (S v ≡ false)
-rest_parts S L v h = let k = and_parts (not (L v)) (not (S v)) h in (not_true _ k.0, not_true _ k.1)
+rest_parts S L v h = let k = and_parts (not (L v)) (not (S v)) h in (not-true _ k.0, not-true _ k.1)
 
 -- A separation seen from its other side.
 pub turned : (g : Graph) → Simple g → (S L : ℕ → Bool) → Separation g S L → Separation g S (rest S L)
@@ -129,10 +129,10 @@ pub some_unjoined : (g : Graph) → Simple g → (S L : ℕ → Bool) → Separa
     → (v : ℕ) × (v < g.order) × (r ≡ v → ⊥) × (g.joined r v ≡ false)
 some_unjoined g s S L k r lr low =
     elim (seek (λ v. not (eqb r v || g.joined r v)) g.order) [
-      | inl w ↦ (let q = or_parts (eqb r w.0) _ (not_true _ w.2) in (w.0, w.1, (λ e. both_ways _ q.0 (eq-eqb r w.0 e)), q.1))
+      | inl w ↦ (let q = or_parts (eqb r w.0) _ (not-true _ w.2) in (w.0, w.1, (λ e. both_ways _ q.0 (eq-eqb r w.0 e)), q.1))
       | inr none ↦
           (let all : count (g.joined r) g.order + 1 ≡ g.order =
-          miss_one (g.joined r) r g.order lr (s.irreflexive r) (λ v l d. on v (λ e. d (sym e)) (not_false _ (none v l))) in
+          miss_one (g.joined r) r g.order lr (s.irreflexive r) (λ v l d. on v (λ e. d (sym e)) (not-false _ (none v l))) in
           let few = miss_two (g.joined k.here) k.here k.there g.order k.here_below k.there_below
           (λ e. both_ways _ k.there_out (ap L (sym e) ∙ k.here_in)) (s.irreflexive k.here) (sides_unjoined g S L k k.here k.there k.here_in k.there_out k.there_off) in
           absurd (omega (arith, all, few, low k.here k.here_below)))

@@ -1,7 +1,7 @@
 -- The strength of the vertex computation is the vertex connectivity, and no vertex cut is
 -- smaller.
 use Rattle.std.proofs.Common.{◌≡◌, ℕ, suc, ◌-◌, ◌<◌, ◌≤◌, Bool, true, false, not, ◌||◌, eqb, List, [], None, filter, sym, refl, ap, ◌∙◌, subst, ap₂, inl, inr, arith}
-use Rattle.std.proofs.lemmas.Bool.{cases_lt, cases_Bool, both_ways, or_parts, or_from, not_true, not_from_false, eq-eqb, ne_eqb, cond-true, cond-false}
+use Rattle.std.proofs.lemmas.Bool.{cases_lt, cases_Bool, both_ways, or_parts, or_from, not-true, not_from_false, eq-eqb, ne_eqb, cond-true, cond-false}
 use Rattle.graph.specs.Graph.{Graph, Simple, count}
 use Rattle.graph.proofs.Counts.{count_zero, count_most}
 use Rattle.flows.specs.Lists.{upto, among}
@@ -27,7 +27,7 @@ pub far_fair : (g : Graph) (r : ℕ) → r < g.order → Fairs g (far_runs g r)
 far_fair g r l run i =
     let c = map_item (run_of g r) run (filter (λ v. not (eqb v r || g.joined r v)) (upto g.order)) i in
     let k = kept_out (λ v. not (eqb v r || g.joined r v)) c.0 (upto g.order) c.1 in
-    let o = or_parts (eqb c.0 r) (g.joined r c.0) (not_true _ k.1) in
+    let o = or_parts (eqb c.0 r) (g.joined r c.0) (not-true _ k.1) in
     subst (Fair g) (sym c.2)
     (record { from_below = l; to_below = upto_below g.order c.0 k.0; differ = λ e. both_ways _ o.0 (eq-eqb c.0 r (sym e)); unjoined = o.1; worth = refl })
 

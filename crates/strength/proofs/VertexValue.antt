@@ -2,7 +2,7 @@
 -- and the same for what parts two vertices.
 use Rattle.std.proofs.Common.{◌≡◌, ℕ, zero, suc, ◌<◌, ◌≤◌, Bool, true, false, cond, not, ◌&&◌, ◌||◌, List, [], ◌∷◌, length, filter, sym, refl, ap, ◌∙◌, arith, length-append}
 use Rattle.std.proofs.lemmas.List.Elements.{filter-append}
-use Rattle.std.proofs.lemmas.Bool.{both_ways, and_parts, and_from, and_right, or_parts, or_from, not_true, not_from_false, lt-ltb, ltb-true}
+use Rattle.std.proofs.lemmas.Bool.{both_ways, and_parts, and_from, and_right, or_parts, or_from, not-true, not_from_false, lt-ltb, ltb-true}
 use Rattle.graph.specs.Graph.{Graph, Simple, count}
 use Rattle.flows.specs.Lists.{upto, all, among}
 use Rattle.flows.specs.Reach.{reaches}
@@ -36,7 +36,7 @@ left g c u v = g.joined u v && not (among c u || among c v)
 left_parts : (g : Graph) (c : List ℕ) (u v : ℕ) → left g c u v ≡ true → (g.joined u v ≡ true) × (among c u ≡ false) × (among c v ≡ false)
 left_parts g c u v h =
     let a = and_parts (g.joined u v) _ h in
-    let o = or_parts (among c u) (among c v) (not_true _ a.1) in
+    let o = or_parts (among c u) (among c v) (not-true _ a.1) in
     (a.0, o.0, o.1)
 
 -- What a reaches without c is a side that c parts from what it does not reach.
@@ -69,7 +69,7 @@ separation_parts g S L k c a b la ia ob has =
 outside_parts : (g : Graph) (c : List ℕ) (v : ℕ) → among (outside_of g c) v ≡ true → (v < g.order) × (among c v ≡ false)
 outside_parts g c v h =
     let a = and_parts (among (upto g.order) v) _ (sym (among_kept (λ v. not (among c v)) (upto g.order) v) ∙ h) in
-    (ltb-true v g.order (sym (among_upto g.order v) ∙ a.0), not_true _ a.1)
+    (ltb-true v g.order (sym (among_upto g.order v) ∙ a.0), not-true _ a.1)
 
 -- A vertex that is not in the list stands outside it.
 outside_from : (g : Graph) (c : List ℕ) (v : ℕ) → v < g.order → among c v ≡ false → among (outside_of g c) v ≡ true
@@ -80,7 +80,7 @@ outside_from g c v l o =
 pub cut_separates : (g : Graph) → Simple g → (c : List ℕ) → is_vertex_cut g c ≡ true → (L : ℕ → Bool) × Separation g (among c) L
 cut_separates g s c h =
     let w = any_from (λ a. not (all (among (side (without_vertices g c) a)) (outside_of g c))) (outside_of g c) h in
-    let z = all_off (among (side (without_vertices g c) w.0)) (outside_of g c) (not_true _ w.2) in
+    let z = all_off (among (side (without_vertices g c) w.0)) (outside_of g c) (not-true _ w.2) in
     let a = outside_parts g c w.0 w.1 in
     let b = outside_parts g c z.0 z.1 in
     (reaches g.order (left g c) w.0, list_separates g s c w.0 z.0 a.0 b.0 a.1 b.1 z.2)

@@ -1,5 +1,7 @@
 // The computations of connectivity are right: theorems. There is nothing to run here: each
 // function's contract is a theorem, and the crate is refused without its proof.
+#![tactic(auto)]
+
 ghost use Rattle.strength.specs.Strength.{FewEdgeRuns, NoSmallerEdgeCut, EdgeStrength, EdgePair, EdgeCutFound, NoSmallerVertexCut, VertexStrength, VertexPair, FewVertexRuns, VertexCutFound};
 ghost use Rattle.cuts.specs.Pairs.{EdgeValueLaws};
 ghost use Rattle.strength.specs.Memory.{CutsFit, RunsFit};

@@ -1,4 +1,6 @@
 // A layer over any store that strikes edges out, and lifts them again, without taking them up.
+#![tactic(auto)]
+
 ghost use Rattle.std.specs.Prelude.{◌≡◌, false, is_ok};
 ghost use Rattle.model.specs.Model.{made};
 ghost use Rattle.model.specs.Table.{nothing, reply_on};

@@ -1,5 +1,5 @@
 use Rattle.std.proofs.Common.{sym, ◌∙◌, arith}
-use Rattle.std.proofs.lemmas.Bool.{not_true, not_false}
+use Rattle.std.proofs.lemmas.Bool.{not-true, not-false}
 use Rattle.graph.proofs.Firsts.{first_some, first_all}
 use Rattle.rows.specs.Flow.{carried}
 use Rattle.search.specs.Steps.{along}
@@ -39,7 +39,7 @@ returns-then-has-room g c =
     let d = g.P.Plan.digraph c.args.plan.now in
     let flow = carried c.args.flow.now in
     let f = arc_found g.P.Plan.digraph _ _ c.loop-q.invariant.0 c.requires.nodes c.in-Some.ensures.value in
-    let free = not_true _ (sym c.has-room.ensures ∙ c.if-has-room.true) in
+    let free = not-true _ (sym c.has-room.ensures ∙ c.if-has-room.true) in
     record {
       value = hit c.loop-q.invariant.1 (along_only d flow c.args.p) f f.below (sym c.is-marked.ensures ∙ c.if-is-marked.false)
           (along_from d flow c.args.p c.in-Some.q f.here free);
@@ -61,7 +61,7 @@ loop-q-preserved g c =
     let d = g.P.Plan.digraph c.args.plan.now in
     let flow = carried c.args.flow.now in
     let f = arc_found g.P.Plan.digraph _ _ c.loop-q.invariant.0 c.requires.nodes c.in-Some.ensures.value in
-    let full = not_false _ (sym c.has-room.ensures ∙ c.if-has-room.false) in (
+    let full = not-false _ (sym c.has-room.ensures ∙ c.if-has-room.false) in (
       c.in-Some.ensures.same ∙ c.loop-q.invariant.0,
       on c.loop-q.invariant.1 (along_only d flow c.args.p) f
           (fresh_off _ (along d flow c.args.p) c.in-Some.q (along_full d flow c.args.p c.in-Some.q full)),
