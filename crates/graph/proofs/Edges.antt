@@ -1,9 +1,9 @@
 -- Graphs with an edge more or less: they stay simple, and the number of edges follows.
-use Rattle.std.proofs.Common.{◌≡◌, ℕ, zero, suc, ◌+◌, ◌-◌, ◌*◌, ◌<◌, ◌≤◌, Bool, true, false, cond, not, ◌&&◌, ◌||◌, eqb, ◌⊎◌, sym, refl, ap, ◌∙◌, ap₂, ⊎_elim, arith}
+use Rattle.std.proofs.Common.{◌≡◌, ℕ, zero, suc, ◌+◌, ◌*◌, ◌<◌, ◌≤◌, Bool, true, false, not, ◌&&◌, ◌||◌, ◌⊎◌, sym, refl, ap, ◌∙◌, ap₂, ⊎_elim, arith}
 use mathlib.Core.Path.{fun_ext}
 use Rattle.std.proofs.lemmas.Bool.Decides.{nat_tests}
 use Rattle.std.proofs.lemmas.Bool.{and_parts, or_cases, cases_eq, cases_lt, cases_Bool, true≢false}
-use Rattle.graph.specs.Graph.{Graph, Simple, count, degree, edges, edges_below, same_edge, added, removed, with_edge, without_edge}
+use Rattle.graph.specs.Graph.{Graph, Simple, count, degree, edges_below, same_edge, added, removed, with_edge, without_edge}
 use Rattle.graph.specs.Laws.{OneEdgeMore, OneEdgeLess, FewEdges}
 use Rattle.graph.proofs.Counts.{count_ext, count_most, count_none, count_one, count_miss}
 

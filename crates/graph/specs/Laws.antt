@@ -1,5 +1,5 @@
 -- What an edge more and an edge less do: the statements; src/lib.rt carries their proofs.
-use Rattle.std.specs.Prelude.{◌≡◌, ℕ, ◌+◌, ◌-◌, ◌*◌, ◌<◌, ◌≤◌, true, false, ◌≢◌}
+use Rattle.std.specs.Prelude.{◌≡◌, ℕ, ◌+◌, ◌*◌, ◌<◌, ◌≤◌, true, false, ◌≢◌}
 use Rattle.graph.specs.Graph.{Graph, Simple, degree, edges, with_edge, without_edge}
 
 -- An edge between two different vertices that are not joined keeps the graph simple, and is one more.

@@ -1,7 +1,7 @@
 -- What a reply by the table says.
-use Rattle.std.proofs.Common.{◌≡◌, ℕ, ◌<◌, ◌≤◌, Bool, true, false, cond, not, ◌&&◌, eqb, ltb, leb, ◌⊎◌, List, [], ◌∷◌, Ok, Err, sym, refl, ap, ◌∙◌, subst, inl, inr, ⊎_elim, arith}
+use Rattle.std.proofs.Common.{◌≡◌, ℕ, ◌<◌, ◌≤◌, Bool, true, false, cond, not, ◌&&◌, ltb, leb, ◌⊎◌, List, [], ◌∷◌, Ok, Err, sym, refl, ap, ◌∙◌, subst, inl, inr, ⊎_elim, arith}
 use Rattle.std.proofs.lemmas.Bool.{cases_Bool, and_parts, leb-true, ltb-true, leb-false, eqb-false, lt-ltb, ne_eqb, lt-leb, true≢false}
-use Rattle.graph.specs.Graph.{Graph, edges}
+use Rattle.graph.specs.Graph.{edges}
 use Rattle.model.specs.declared.call.Call.TheVariants.{Make, Join, Part}
 use Rattle.model.specs.declared.refusal.Refusal.{Refusal}
 use Rattle.model.specs.declared.refusal.Refusal.TheVariants.{BadOrder, ShortMemory, NoVertex, SameVertex, IsStruck, IsJoined, NotJoined, NotStruck, NoRoom, OneVertex, Adjacent, BadDigits, BadFrame, OutOfTurn}

@@ -5,13 +5,13 @@
 --   after             the state after a call
 --   Right             a reply is the model's refusal, or an accepted call's right answer
 --   Event, Sound      a call with its lent memory and its reply; events that led to a state
-use Rattle.std.specs.Prelude.{◌≡◌, ℕ, List, [], ◌∷◌, Ok, Err, Result}
+use Rattle.std.specs.Prelude.{◌≡◌, List, [], ◌∷◌, Ok, Err, Result}
 use Rattle.model.specs.declared.call.Call.{Call}
 use Rattle.model.specs.declared.call.Call.TheVariants.{Make, Join, Part, Strike, Lift}
 use Rattle.model.specs.declared.call.Answer.{Answer}
 use Rattle.model.specs.declared.call.Answer.TheVariants.{Made, Joined, Parted, Struck, Lifted}
 use Rattle.model.specs.declared.refusal.Refusal.{Refusal}
-use Rattle.model.specs.Model.{Model, Lent, State, unmade, made, blank, lay, take_up, strike_out, lift_up}
+use Rattle.model.specs.Model.{Lent, State, unmade, made, blank, lay, take_up, strike_out, lift_up}
 use Rattle.model.specs.Table.{Reply, reply}
 
 -- What an accepted call changes. (Before an accepted make only a make is accepted, and

@@ -5,7 +5,7 @@
 --   in_force                   the graph of the edges laid and not struck
 --   Lent                       what the memory lent to a make is good for
 --   State                      before an accepted make, or after it
-use Rattle.std.specs.Prelude.{ℕ, Bool, true, false, not, ◌&&◌}
+use Rattle.std.specs.Prelude.{ℕ, Bool, false, not, ◌&&◌}
 use Rattle.graph.specs.Graph.{Graph, added, removed}
 
 abbrev pub make_limit : ℕ

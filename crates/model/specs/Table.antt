@@ -3,7 +3,7 @@
 --   fits             whether a refusal fits a call: a clause a row
 --   checking_order   which rows are looked at first
 --   reply            the first row that fits, or acceptance
-use Rattle.std.specs.Prelude.{ℕ, Bool, true, false, cond, not, ◌&&◌, ◌||◌, List, [], ◌∷◌, Ok, Err, Result, ◌==◌, nat_le, nat_lt}
+use Rattle.std.specs.Prelude.{ℕ, Bool, true, false, cond, not, ◌&&◌, List, [], ◌∷◌, Ok, Err, Result, ◌==◌, nat_le, nat_lt}
 use Rattle.graph.specs.Graph.{order_limit, edges_below}
 use Rattle.model.specs.declared.call.Call.{Call}
 use Rattle.model.specs.declared.call.Call.TheVariants.{Make, Join, Part, Strike, Lift}

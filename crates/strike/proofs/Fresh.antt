@@ -1,8 +1,8 @@
 -- What a layer keeps: at first a blank model, and always one whose graph in force it means.
-use Rattle.std.proofs.Common.{◌≡◌, ℕ, Bool, false, take, refl, ap, ◌∙◌}
+use Rattle.std.proofs.Common.{◌≡◌, ℕ, false, take, refl, ap, ◌∙◌}
 use mathlib.Core.Path.{fun_ext}
 use Rattle.graph.specs.Graph.{Graph, empty}
-use Rattle.model.specs.Model.{Model, blank, in_force}
+use Rattle.model.specs.Model.{blank, in_force}
 use Rattle.strike.specs.Struck.{listed, without}
 use Rattle.strike.specs.Kept.{noted, kept}
 use Rattle.strike.specs.declared.Strike.{Strike}

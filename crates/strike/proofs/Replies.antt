@@ -1,5 +1,5 @@
 -- What the layer replies where it passes an edit on: the store's reply, and the model after it.
-use Rattle.std.proofs.Common.{◌≡◌, ℕ, Bool, true, false, cond, eqb, List, Ok, Err, sym, refl, ap, ◌∙◌, ap₂, arith}
+use Rattle.std.proofs.Common.{◌≡◌, ℕ, Bool, true, false, cond, eqb, Ok, Err, refl, ap, ◌∙◌, ap₂, arith}
 use Rattle.graph.specs.Graph.{Graph}
 use Rattle.model.specs.Model.{Model, State, made, bare, lay, take_up}
 use Rattle.model.specs.Table.{Reply, outside, nothing, reply_on}

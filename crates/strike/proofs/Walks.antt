@@ -1,5 +1,5 @@
 -- Walking the store's neighbours past the struck ones finds the layer's.
-use Rattle.std.proofs.Common.{◌≡◌, ℕ, ◌+◌, ◌-◌, ◌<◌, ◌≤◌, Bool, true, false, not, ◌&&◌, List, Some, None, sym, refl, ap, ◌∙◌, ⊎_elim, arith}
+use Rattle.std.proofs.Common.{◌≡◌, ℕ, ◌+◌, ◌-◌, ◌<◌, ◌≤◌, Bool, true, false, not, List, Some, None, sym, ap, ◌∙◌, ⊎_elim, arith}
 use Rattle.std.proofs.lemmas.Bool.{cases_eq, and_right}
 use Rattle.graph.specs.Graph.{Graph, next, first}
 use Rattle.graph.proofs.Firsts.{first_found, first_missing, first_some, first_all, first_skip}

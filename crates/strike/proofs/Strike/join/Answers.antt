@@ -6,8 +6,8 @@ returns g c =
     let graph = g.S.Map.graph in
     let most = g.S.Editable.most in
     let s = c.args.self.now in
-    let t = c.check-unstruck.new.self in
-    let passed = c.in-ok-check-unstruck.ensures in
+    let t = c.check_unstruck.new.self in
+    let passed = c.in_ok-check_unstruck.ensures in
     let asked = c.join.ensures in
     let reply = join_reply graph most s t passed.same c.args.u c.args.v passed.reply c.join.result c.join.new.self asked.reply in
     record {

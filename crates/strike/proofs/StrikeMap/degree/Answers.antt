@@ -1,4 +1,4 @@
-use Rattle.std.proofs.Common.{◌≡◌, ℕ, ◌+◌, ◌≤◌, Bool, true, false, cond, sym, refl, ap, ◌∙◌, arith}
+use Rattle.std.proofs.Common.{◌≡◌, ℕ, ◌+◌, ◌≤◌, Bool, true, false, sym, refl, ap, ◌∙◌, arith}
 use Rattle.graph.specs.Graph.{count}
 use Rattle.graph.proofs.Counts.{count_zero, count_more}
 use Rattle.strike.specs.Struck.{without}

@@ -1,5 +1,5 @@
-use Rattle.std.proofs.Common.{◌≡◌, ℕ, ◌+◌, ◌-◌, ◌<◌, ◌≤◌, sym, ap, ◌∙◌, subst, arith, rules}
-use Rattle.graph.specs.Graph.{Graph, next}
+use Rattle.std.proofs.Common.{◌≡◌, ◌+◌, ◌<◌, ◌≤◌, sym, ap, ◌∙◌, subst, arith, rules}
+use Rattle.graph.specs.Graph.{next}
 use Rattle.strike.specs.Struck.{without}
 use Rattle.strike.specs.Kept.{noted}
 use Rattle.strike.proofs.Walks.{walk_found, walk_goes, walk_none}
@@ -19,8 +19,8 @@ goes g c =
     let s = c.loop-v.self in
     walk_goes (g.S.Map.graph s.store) (noted s) c.args.u c.args.w c.loop-v.from c.loop-v.invariant.1 c.in-Some.v c.in-Some.ensures.value c.has.result c.has.ensures c.if-not-has.false
 
-pub overflow-add-from : goal.overflow-add-from
-overflow-add-from g c = omega (arith, (goes g c).2, (g.S.Map.simple c.loop-v.self.store).small)
+pub overflow_add-from : goal.overflow_add-from
+overflow_add-from g c = omega (arith, (goes g c).2, (g.S.Map.simple c.loop-v.self.store).small)
 
 pub loop-v-smaller : goal.loop-v-smaller
 loop-v-smaller g c =
@@ -36,5 +36,5 @@ loop-v-preserved g c = (
 pub returns : goal.returns
 returns g c =
     let s = c.loop-v.self in
-    let none = walk_none (g.S.Map.graph s.store) (noted s) c.args.u c.args.w c.loop-v.from c.loop-v.invariant.1 c.in-default.ensures.value in
+    let none = walk_none (g.S.Map.graph s.store) (noted s) c.args.u c.args.w c.loop-v.from c.loop-v.invariant.1 c.in_default.ensures.value in
     record { value = none ∙ ap (λ t. next (without (g.S.Map.graph t.store) (noted t)) c.args.u c.args.w) c.loop-v.invariant.0; same = search rules }

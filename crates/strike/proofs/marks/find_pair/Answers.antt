@@ -8,7 +8,7 @@ use Rattle.strike.proofs.marks.find_pair.Goals as goal
 pub loop-i-preserved : goal.loop-i-preserved
 loop-i-preserved c =
     let s = listed_step c.args.pairs.now c.loop-i.i c.args.u c.args.v (omega arith) in
-    let t = sym c.same_edge.ensures ∙ c.if-same-edge.false in
+    let t = sym c.same_edge.ensures ∙ c.if-same_edge.false in
     sym (rw t at s) ∙ c.loop-i.invariant
 
 pub unreachable-requires : goal.unreachable-requires

@@ -4,5 +4,5 @@ use Rattle.graph.proofs.Edges.{edges_none}
 use Rattle.strike.proofs.Pairs.{listed_none}
 use Rattle.strike.proofs.marks.Marks.none.Goals as goal
 
-pub invariant-of-result : goal.invariant-of-result
-invariant-of-result c = (omega arith, (edges_none order_limit _ listed_none, tt))
+pub invariant_of-result : goal.invariant_of-result
+invariant_of-result c = record { few = omega arith; counted = edges_none order_limit _ listed_none }
