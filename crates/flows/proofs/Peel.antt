@@ -2,7 +2,7 @@
 -- s to t, and without the arcs of such a route it is a flow of value one less.
 use Rattle.std.proofs.Common.{◌≡◌, ℕ, zero, suc, ◌+◌, ◌*◌, ◌<◌, Bool, true, false, not, ◌&&◌, ◌||◌, eqb, List, [], ◌∷◌, sym, refl, ap, ◌∙◌, subst, inl, inr, arith}
 use mathlib.Core.Path.{fun_ext}
-use Rattle.std.proofs.lemmas.List.Elements.{All-weaker}
+use Rattle.std.proofs.lemmas.List.Elements.{All-nil, All-cons, All-weaker}
 use Rattle.std.proofs.lemmas.Bool.{cases_eq, cases_Bool, both_ways, eq-eqb, ne_eqb, and_parts, not-true}
 use Rattle.std.proofs.lemmas.Bool.Decides.{nat_tests}
 use Rattle.flows.specs.Reach.{reaches}
@@ -101,15 +101,15 @@ module _ (d : Digraph) (s t : ℕ) (sound : Sound d) (hs : s < d.nodes) (st : s 
       record {
         routes = xs ∷ r.routes;
         many = ap suc r.many;
-        each = (w, All-weaker _ _ (λ ys k. record { walk = walk_more (without f xs) f s t ys (within f xs) k.walk; apart = k.apart }) r.routes r.each);
-        disjoint = (All-weaker _ (ArcDisjoint xs) (λ ys k. clear ys k.walk) r.routes r.each, r.disjoint);
+        each = All-cons (Route f s t) xs r.routes w (All-weaker (Route (without f xs) s t) (Route f s t) (λ ys k. record { walk = walk_more (without f xs) f s t ys (within f xs) k.walk; apart = k.apart }) r.routes r.each);
+        disjoint = (All-weaker (Route (without f xs) s t) (ArcDisjoint xs) (λ ys k. clear ys k.walk) r.routes r.each, r.disjoint);
       }
     where
       clear : (ys : List ℕ) → Walk (without f xs) s t ys → ArcDisjoint xs ys
       clear ys k p q e = never_true _ (λ h. both_ways (goes xs p q) (not-true _ (and_parts (f p q) _ (walk_goes (without f xs) s t ys k p q h)).1) e)
 
   peel : (v : ℕ) (f : ℕ → ℕ → Bool) → Flow d s t f v → Peeled f s t v
-  peel zero f fl = record { routes = []; many = refl; each = tt; disjoint = tt }
+  peel zero f fl = record { routes = []; many = refl; each = All-nil (Route f s t); disjoint = tt }
   peel (suc v) f fl =
       let w = reached_route d.nodes f s hs t (leads f v fl) in
       let l = level_without d.nodes s t (suc v) s w.0 f (λ p q e. sound.bounded p q (fl.along p q e)) (level_start f (suc v) fl) w.1.walk w.1.apart in

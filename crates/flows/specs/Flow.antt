@@ -1,7 +1,6 @@
 -- Digraphs, unit flows, residual steps.
 use Rattle.std.specs.Prelude.{◌≡◌, ℕ, zero, suc, ◌+◌, ◌<◌, ◌≤◌, Bool, true, false, cond, not, ◌&&◌, ◌||◌, List, [], ◌∷◌, length, All, ◌==◌, ◌≢◌}
 use Rattle.graph.specs.Graph.{count}
-use Rattle.flows.specs.Lists.{among}
 use Rattle.flows.specs.Reach.{reaches}
 use Rattle.flows.specs.Routes.{Route, goes}
 
