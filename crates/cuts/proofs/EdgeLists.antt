@@ -1,20 +1,19 @@
 -- The list of a graph's edges: what stands in it, each once, and how many cross a set.
-use Rattle.std.proofs.Common.{◌≡◌, ℕ, zero, suc, ◌+◌, ◌<◌, ◌≤◌, Bool, true, false, cond, not, ◌&&◌, ◌||◌, eqb, ltb, ◌⊎◌, List, [], ◌∷◌, ◌++◌, map, length, filter, sym, refl, ap, ◌∙◌, subst, ap₂, inl, inr, ⊎_elim, append_assoc, arith, length-append}
+use Rattle.std.proofs.Common.{◌≡◌, ℕ, zero, suc, ◌+◌, ◌<◌, ◌≤◌, Bool, true, false, cond, not, ◌&&◌, ◌||◌, ltb, List, [], ◌∷◌, ◌++◌, map, length, filter, sym, refl, ap, ◌∙◌, subst, ap₂, inl, inr, ⊎_elim, append_assoc, arith, length-append}
 use Rattle.std.proofs.lemmas.List.{append-nil}
 use Rattle.std.proofs.lemmas.List.Elements.{filter-append}
-use Rattle.std.proofs.lemmas.Bool.{cases_Bool, cases_lt, cases_eq, and_parts, or_cases, lt-ltb, le-ltb, ltb-true, true≢false}
+use Rattle.std.proofs.lemmas.Bool.{cases_lt, cases_eq, and_parts, or_cases, lt-ltb, le-ltb, ltb-true, true≢false}
 use Rattle.graph.specs.Graph.{Graph, Simple, count}
-use Rattle.graph.proofs.Counts.{count_ext}
 use Rattle.graph.proofs.Edges.{same_edge_ends, same_edge_swap}
 use Rattle.flows.specs.Lists.{upto, any}
-use Rattle.flows.specs.Flow.{total, pairs_passing, leaving}
+use Rattle.flows.specs.Flow.{total, leaving}
 use Rattle.flows.proofs.Sums.{bit, total_same, total_swap, total₂_add, total₂_same, pairs_total}
 use Rattle.cuts.specs.declared.edge.Edge.{Edge}
 use Rattle.cuts.specs.Edges.{edge, edges_up, edges_of, edge_list, is_between, has_edge}
 use Rattle.cuts.specs.Choices.{In}
 use Rattle.cuts.specs.Pairs.{crossing_edges}
 use Rattle.cuts.proofs.Smallest.{Sub, in_left, in_right, in_either, kept_in, kept_out}
-use Rattle.cuts.proofs.Standing.{Distinct, any_in, sub_in, distinct_kept, distinct_append, in_upto, upto_below, distinct_upto}
+use Rattle.cuts.proofs.Standing.{Distinct, sub_in, distinct_kept, distinct_append, in_upto, upto_below, distinct_upto}
 
 in_map : (f : ℕ → Edge) (q : ℕ) (xs : List ℕ) → In q xs → In (f q) (map f xs)
 in_map f q [] i = absurd i

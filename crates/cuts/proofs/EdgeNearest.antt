@@ -1,22 +1,20 @@
 -- The edge value of a pair is the value of a largest flow, and the nearest of its smallest cuts
 -- is what crosses the flow's residual side.
-use Rattle.std.proofs.Common.{◌≡◌, ℕ, zero, suc, ◌+◌, ◌<◌, ◌≤◌, Bool, true, false, cond, not, ◌&&◌, ◌||◌, eqb, ◌⊎◌, List, [], ◌∷◌, length, sym, refl, ap, ◌∙◌, subst, ap₂, inl, inr, ⊎_elim, arith}
+use Rattle.std.proofs.Common.{◌≡◌, ℕ, ◌<◌, ◌≤◌, Bool, true, false, not, ◌&&◌, ◌||◌, List, [], length, sym, refl, ap, ◌∙◌, ap₂, ⊎_elim, arith}
 use mathlib.Core.Path.{fun_ext}
-use Rattle.std.proofs.lemmas.Bool.{cases_Bool, and_parts, or_cases, eq-eqb, ne_eqb, eqb-true, true≢false}
-use Rattle.graph.specs.Graph.{Graph, Simple, count, degree}
-use Rattle.graph.proofs.Counts.{count_ext, count_none}
+use Rattle.std.proofs.lemmas.Bool.{and_parts, or_cases, true≢false}
+use Rattle.graph.specs.Graph.{Graph, Simple}
 use Rattle.flows.specs.Lists.{all, among}
-use Rattle.flows.specs.Reach.{reached, reaches}
-use Rattle.flows.specs.Flow.{Digraph, Sound, Flow, residual, residual_side, leaving, Between, total}
-use Rattle.flows.proofs.Lists.{same_test, never_true, all_at, all_from}
+use Rattle.flows.specs.Flow.{Sound, Flow, residual, residual_side, leaving, Between}
+use Rattle.flows.proofs.Lists.{same_test, all_at, all_from}
 use Rattle.flows.proofs.Reached.{reached_self, reached_turn}
 use Rattle.flows.proofs.Largest.{largest_flow_lem}
 use Rattle.flows.proofs.Most.{most_exists_lem}
 use Rattle.cuts.specs.declared.edge.Edge.{Edge}
 use Rattle.cuts.specs.Edges.{edge_list, has_edge, without_edges, side, linked}
-use Rattle.cuts.specs.Choices.{In, smallest, size, inside}
+use Rattle.cuts.specs.Choices.{In, size, inside}
 use Rattle.cuts.specs.Cuts.{edges_part, edge_cuts, edge_value, nearest_edge_cut}
-use Rattle.cuts.specs.Pairs.{both_ways, crossing_edges, EdgeValueByFlow, NearestEdgeCut, EdgeValueLaws}
+use Rattle.cuts.specs.Pairs.{both_ways, crossing_edges, EdgeValueByFlow, NearestEdgeCut}
 use Rattle.cuts.proofs.Smallest.{Sub, kept_sub, size_least, size_met, smallest_each, smallest_every}
 use Rattle.cuts.proofs.Standing.{all_in, in_all, find_in, sub_full}
 use Rattle.cuts.proofs.EdgeLists.{edge_out, distinct_edges, has_in, has_swap, crossing_count}

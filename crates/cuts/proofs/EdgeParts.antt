@@ -1,22 +1,19 @@
 -- Sets of edges that part two vertices, and sets of vertices that lie between them.
-use Rattle.std.proofs.Common.{◌≡◌, ℕ, zero, suc, ◌+◌, ◌<◌, ◌≤◌, Bool, true, false, cond, not, ◌&&◌, ◌||◌, eqb, ltb, ◌⊎◌, List, [], ◌∷◌, length, filter, sym, refl, ap, ◌∙◌, subst, ap₂, inl, inr, ⊎_elim, arith}
+use Rattle.std.proofs.Common.{◌≡◌, ℕ, zero, suc, ◌+◌, ◌<◌, ◌≤◌, Bool, true, false, cond, not, ◌&&◌, ◌||◌, eqb, List, [], ◌∷◌, length, sym, refl, ap, ◌∙◌, ap₂, ⊎_elim, arith}
 use Rattle.std.proofs.lemmas.Bool.{cases_Bool, cases_lt, cases_eq, and_parts, ne_eqb, true≢false}
 use Rattle.graph.specs.Graph.{Graph, Simple, count, same_edge}
-use Rattle.graph.proofs.Edges.{same_edge_swap}
 use Rattle.flows.specs.Lists.{any}
-use Rattle.flows.specs.Reach.{reaches}
-use Rattle.flows.specs.Flow.{total, pairs_passing, leaving, Between}
+use Rattle.flows.specs.Flow.{pairs_passing, leaving, Between}
 use Rattle.flows.proofs.Lists.{never_true}
 use Rattle.flows.proofs.Reached.{reached_self, reached_step, reached_least}
-use Rattle.flows.proofs.Sums.{bit, total_le, total_zero, total₂_add, total₂_le, total₂_zero, count_total, pairs_total}
+use Rattle.flows.proofs.Sums.{bit, total_le, total₂_add, total₂_le, total₂_zero, count_total, pairs_total}
 use Rattle.cuts.specs.declared.edge.Edge.{Edge}
 use Rattle.cuts.specs.Edges.{edge, edge_list, is_between, has_edge, without_edges, linked}
-use Rattle.cuts.specs.Choices.{In}
 use Rattle.cuts.specs.Cuts.{edges_part}
 use Rattle.cuts.specs.Pairs.{crossing_edges}
 use Rattle.cuts.proofs.Smallest.{kept_in}
 use Rattle.cuts.proofs.Standing.{any_in}
-use Rattle.cuts.proofs.EdgeLists.{edge_in, crossing_count}
+use Rattle.cuts.proofs.EdgeLists.{edge_in}
 
 not-false : (b : Bool) → not b ≡ true → b ≡ false
 not-false true h = let z : ⊥ = true≢false (sym h) in absurd z

@@ -1,6 +1,7 @@
 -- Double counting between two lists: if each item of one meets some item of the other, each
 -- item of the other is met at most once, and the lists are as long, then each is met exactly once.
 use Rattle.std.proofs.Common.{◌≡◌, ℕ, ◌+◌, ◌≤◌, Bool, true, false, cond, List, [], ◌∷◌, length, All, filter, refl, ap, ◌∙◌, inl, inr, ⊎_elim, arith}
+use Rattle.std.proofs.lemmas.List.Elements.{All-nil, All-cons, All-head, All-tail}
 use Rattle.std.proofs.lemmas.Bool.{cases_Bool, or_cases, or_left, or_right, both_ways}
 use Rattle.flows.specs.Lists.{any}
 use Rattle.flows.proofs.Sums.{bit}
@@ -11,12 +12,12 @@ module _ {X : Type 0} where
   -- What holds of all items holds of each that stands in the list.
   pub all_in_list : (P : X → Type 0) (x : X) (xs : List X) → All P xs → In x xs → P x
   all_in_list P x [] a i = absurd i
-  all_in_list P x (y ∷ ys) a i = ⊎_elim (λ e. rw e a.0) (λ j. all_in_list P x ys a.1 j) i
+  all_in_list P x (y ∷ ys) a i = ⊎_elim (λ e. rw e (All-head P y ys a)) (λ j. all_in_list P x ys (All-tail P y ys a) j) i
 
   -- What holds of each item that stands in the list holds of all.
   pub in_list_all : (P : X → Type 0) (xs : List X) → ((x : X) → In x xs → P x) → All P xs
-  in_list_all P [] h = tt
-  in_list_all P (x ∷ xs) h = (h x (inl refl), in_list_all P xs (λ y i. h y (inr i)))
+  in_list_all P [] h = All-nil P
+  in_list_all P (x ∷ xs) h = All-cons P x xs (h x (inl refl)) (in_list_all P xs (λ y i. h y (inr i)))
 
   -- A relation between items may be weakened.
   pub pairwise_weaker : (r s : X → X → Type 0) → ((x y : X) → r x y → s x y) → (xs : List X) → Pairwise r xs → Pairwise s xs
@@ -38,7 +39,7 @@ module _ {X : Type 0} where
   -- Where no item passes, none is kept.
   kept_none : (p : X → Bool) (xs : List X) → All (λ x. p x ≡ false) xs → length (filter p xs) ≡ 0
   kept_none p [] a = refl
-  kept_none p (x ∷ xs) a = rw a.0 (kept_none p xs a.1)
+  kept_none p (x ∷ xs) a = rw (All-head (λ x. p x ≡ false) x xs a) (kept_none p xs (All-tail (λ x. p x ≡ false) x xs a))
 
   -- If an item that passes has no later one that passes, then at most one is kept.
   pub kept_once : (p : X → Bool) (xs : List X) → Pairwise (λ x y. p x ≡ true → p y ≡ false) xs → length (filter p xs) ≤ 1
@@ -95,8 +96,8 @@ module _ {X Y : Type 0} (t : X → Y → Bool) where
   met_least (x ∷ xs) ys a =
       omega (
         arith,
-        sum_any (t x) ys a.0,
-        met_least xs ys a.1,
+        sum_any (t x) ys (All-head (λ x. any (t x) ys ≡ true) x xs a),
+        met_least xs ys (All-tail (λ x. any (t x) ys ≡ true) x xs a),
         sum_add (met (x ∷ xs)) (λ y. bit (t x y)) (met xs) (λ y. kept_cons (λ z. t z y) x xs) ys,
       )
 

@@ -1,5 +1,6 @@
 -- Routes of an unjoined pair that share only their ends share no edge.
-use Rattle.std.proofs.Common.{◌≡◌, ℕ, ◌<◌, ◌≤◌, Bool, true, false, ◌||◌, ◌⊎◌, List, [], ◌∷◌, All, sym, refl, ap, ◌∙◌, ap₂, inl, inr, ⊎_elim}
+use Rattle.std.proofs.Common.{◌≡◌, ℕ, true, false, ◌⊎◌, List, [], ◌∷◌, All, sym, ◌∙◌, ap₂, ⊎_elim}
+use Rattle.std.proofs.lemmas.List.Elements.{All-nil, All-cons, All-head, All-tail}
 use Rattle.std.proofs.lemmas.Bool.{or_cases, true≢false}
 use Rattle.graph.specs.Graph.{Graph, Simple}
 use Rattle.graph.proofs.Edges.{joined_differ}
@@ -7,7 +8,7 @@ use Rattle.flows.specs.Lists.{among}
 use Rattle.flows.specs.Routes.{Route, goes, edge_on}
 use Rattle.flows.proofs.Lists.{never_true}
 use Rattle.flows.proofs.Routes.{walk_goes}
-use Rattle.cuts.specs.RouteRules.{Pairwise, ShareNoEdge, ShareOnlyEnds, EdgeRoutes, VertexRoutes, VertexRoutesFit}
+use Rattle.cuts.specs.RouteRules.{Pairwise, ShareNoEdge, ShareOnlyEnds, EdgeRoutes, VertexRoutesFit}
 use Rattle.cuts.proofs.RouteMeets.{goes_among}
 use Rattle.cuts.proofs.RouteFits.{routes_fit_lem}
 
@@ -36,12 +37,18 @@ module _ (g : Graph) (simple : Simple g) (a b : ℕ) (off : g.joined a b ≡ fal
       not_ends u v x.0 (share u x.1 y.1) (share v x.2 y.2))
 
   no_edges : (xs : List ℕ) (rs : List (List ℕ)) → Route g.joined a b xs → All (Route g.joined a b) rs → All (ShareOnlyEnds a b xs) rs → All (ShareNoEdge xs) rs
-  no_edges xs [] rx each share = tt
-  no_edges xs (ys ∷ rs) rx each share = (no_edge xs ys rx each.0 share.0, no_edges xs rs rx each.1 share.1)
+  no_edges xs [] rx each share = All-nil (ShareNoEdge xs)
+  no_edges xs (ys ∷ rs) rx each share =
+      All-cons (ShareNoEdge xs) ys rs
+      (no_edge xs ys rx (All-head (Route g.joined a b) ys rs each) (All-head (ShareOnlyEnds a b xs) ys rs share))
+      (no_edges xs rs rx (All-tail (Route g.joined a b) ys rs each) (All-tail (ShareOnlyEnds a b xs) ys rs share))
 
   all_disjoint : (rs : List (List ℕ)) → All (Route g.joined a b) rs → Pairwise (ShareOnlyEnds a b) rs → Pairwise ShareNoEdge rs
   all_disjoint [] each share = tt
-  all_disjoint (xs ∷ rs) each share = (no_edges xs rs each.0 each.1 share.0, all_disjoint rs each.1 share.1)
+  all_disjoint (xs ∷ rs) each share =
+      let first = All-head (Route g.joined a b) xs rs each in
+      let rest = All-tail (Route g.joined a b) xs rs each in
+      (no_edges xs rs first rest share.0, all_disjoint rs rest share.1)
 
 pub vertex_routes_fit_lem : VertexRoutesFit
 vertex_routes_fit_lem g a b routes simple ha hb ne off v =

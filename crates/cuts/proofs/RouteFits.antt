@@ -1,7 +1,7 @@
 -- Edge routes fit: their steps are different edges, and their second vertices are different
 -- neighbours of the first end.
 use Rattle.std.proofs.Common.{◌≡◌, ℕ, suc, ◌+◌, ◌*◌, ◌<◌, ◌≤◌, Bool, true, false, List, [], ◌∷◌, ◌++◌, length, All, sym, refl, ap, ◌∙◌, ap₂, inl, inr, ⊎_elim, arith, length-append}
-use Rattle.std.proofs.lemmas.List.Elements.{All-weaker, All-append}
+use Rattle.std.proofs.lemmas.List.Elements.{All-head, All-tail, All-weaker, All-append}
 use Rattle.std.proofs.lemmas.Bool.{cases_lt, both_ways, or_left, or_right, and_from, not_from_false}
 use Rattle.graph.specs.Graph.{Graph, Simple, edges, same_edge, without_edge}
 use Rattle.graph.proofs.Edges.{same_edge_ends, joined_differ, one_edge_less_lem}
@@ -25,9 +25,9 @@ Differ e f = same_edge e.low e.high f.low f.high ≡ false
 different_edges : (es : List Edge) (g : Graph) → Simple g → All (λ e. g.joined e.low e.high ≡ true) es → Pairwise Differ es → length es ≤ edges g
 different_edges [] g simple on differ = omega arith
 different_edges (e ∷ es) g simple on differ =
-    let less = one_edge_less_lem g e.low e.high simple on.0 in
+    let less = one_edge_less_lem g e.low e.high simple (All-head (λ e. g.joined e.low e.high ≡ true) e es on) in
     let rest = different_edges es (without_edge g e.low e.high) less.0
-    (in_list_all _ es (λ f i. and_from _ _ (all_in_list (λ e. g.joined e.low e.high ≡ true) f es on.1 i) (not_from_false _ (all_in_list (Differ e) f es differ.0 i))))
+    (in_list_all _ es (λ f i. and_from _ _ (all_in_list (λ e. g.joined e.low e.high ≡ true) f es (All-tail (λ e. g.joined e.low e.high ≡ true) e es on) i) (not_from_false _ (all_in_list (Differ e) f es differ.0 i))))
     differ.1 in
     omega (arith, rest, less.1)
 
@@ -98,7 +98,7 @@ all_differ : (rs : List (List ℕ)) → All Apart rs → Pairwise ShareNoEdge rs
 unfolding all_steps
 all_differ [] o d = tt
 all_differ (xs ∷ rs) o d =
-    pairwise_append Differ (steps xs) (all_steps rs) (route_differs xs o.0) (all_differ rs o.1 d.1)
+    pairwise_append Differ (steps xs) (all_steps rs) (route_differs xs (All-head Apart xs rs o)) (all_differ rs (All-tail Apart xs rs o) d.1)
     (λ e f i j. let r = steps_of rs f j in routes_differ xs r.0 (all_in_list (ShareNoEdge xs) r.0 rs d.0 r.1) e f i r.2)
 
 -- A walk has one vertex more than steps.
@@ -113,14 +113,18 @@ bytes_steps : (r : ℕ → ℕ → Bool) (a b : ℕ) (rs : List (List ℕ)) → 
 unfolding all_steps route_bytes
 bytes_steps r a b [] each = refl
 bytes_steps r a b (xs ∷ rs) each =
-    omega (arith, walk_length r a b xs each.0.walk, length-append (steps xs) (all_steps rs), bytes_steps r a b rs each.1)
+    omega (arith, walk_length r a b xs (All-head (Route r a b) xs rs each).walk, length-append (steps xs) (all_steps rs), bytes_steps r a b rs (All-tail (Route r a b) xs rs each))
 
 module _ {X : Type 0} (f : X → ℕ) (n : ℕ) where
   -- Ascending numbers from low up and below n are at most n - low.
   ascending_fit : (low : ℕ) (xs : List X) → low ≤ n → Pairwise (λ x y. f x < f y) xs → All (λ x. low ≤ f x) xs → All (λ x. f x < n) xs → length xs + low ≤ n
   ascending_fit low [] h p from below = omega arith
   ascending_fit low (x ∷ xs) h p from below =
-      omega (arith, from.0, ascending_fit (suc (f x)) xs (omega (arith, below.0)) p.1 (All-weaker _ _ (λ y l. omega (arith, l)) xs p.0) below.1)
+      let low_x = All-head (λ x. low ≤ f x) x xs from in
+      let x_below = All-head (λ x. f x < n) x xs below in
+      let rest_below = All-tail (λ x. f x < n) x xs below in
+      let rest = ascending_fit (suc (f x)) xs (omega (arith, x_below)) p.1 (All-weaker (λ y. f x < f y) (λ y. suc (f x) ≤ f y) (λ y l. omega (arith, l)) xs p.0) rest_below in
+      omega (arith, low_x, rest)
 
   -- And one fewer where they leave one of these out.
   ascending_but : (low a : ℕ) (xs : List X) → low ≤ a → a < n → Pairwise (λ x y. f x < f y) xs → All (λ x. low ≤ f x) xs → All (λ x. f x < n) xs
@@ -128,12 +132,18 @@ module _ {X : Type 0} (f : X → ℕ) (n : ℕ) where
   ascending_but low a [] h k p from below other = omega arith
   ascending_but low a (x ∷ xs) h k p from below other =
       ⊎_elim
-      (λ l. omega (arith, from.0, ascending_but (suc (f x)) a xs (omega arith) k p.1 later below.1 other.1))
-      (λ l. omega (arith, other.0, from.0, ascending_fit (suc (f x)) xs (omega (arith, below.0)) p.1 later below.1))
+      (λ l. omega (arith, low_x, ascending_but (suc (f x)) a xs (omega arith) k p.1 later rest_below (All-tail (λ x. f x ≡ a → ⊥) x xs other)))
+      (λ l. omega (arith, All-head (λ x. f x ≡ a → ⊥) x xs other, low_x, ascending_fit (suc (f x)) xs (omega (arith, All-head (λ x. f x < n) x xs below)) p.1 later rest_below))
       (cases_lt (f x) a)
     where
       later : All (λ y. suc (f x) ≤ f y) xs
-      later = All-weaker _ _ (λ y l. omega (arith, l)) xs p.0
+      later = All-weaker (λ y. f x < f y) (λ y. suc (f x) ≤ f y) (λ y l. omega (arith, l)) xs p.0
+
+      low_x : low ≤ f x
+      low_x = All-head (λ x. low ≤ f x) x xs from
+
+      rest_below : All (λ x. f x < n) xs
+      rest_below = All-tail (λ x. f x < n) x xs below
 
 -- The second vertex of a walk between two different ends is a neighbour of the first.
 second_joined : (r : ℕ → ℕ → Bool) (a b : ℕ) → (a ≡ b → ⊥) → (xs : List ℕ) → Walk r a b xs → r a (second xs) ≡ true
@@ -145,9 +155,9 @@ second_joined r a b ne (x ∷ (y ∷ xs)) w = ap (λ (z : ℕ). r z y) (sym w.0)
 few_routes : (g : Graph) (a b : ℕ) (rs : List (List ℕ)) → Simple g → a < g.order → (a ≡ b → ⊥) → All (Route g.joined a b) rs → Ascending rs → length rs + 1 ≤ g.order
 few_routes g a b rs simple ha ne each up =
     ascending_but second g.order 0 a rs (omega arith) ha up
-    (All-weaker _ _ (λ xs r. omega arith) rs each)
-    (All-weaker _ _ (λ xs r. (simple.bounded a (second xs) (second_joined g.joined a b ne xs r.walk)).1) rs each)
-    (All-weaker _ _ (λ xs r e. joined_differ g simple a (second xs) (second_joined g.joined a b ne xs r.walk) (sym e)) rs each)
+    (All-weaker (Route g.joined a b) (λ xs. 0 ≤ second xs) (λ xs r. omega arith) rs each)
+    (All-weaker (Route g.joined a b) (λ xs. second xs < g.order) (λ xs r. (simple.bounded a (second xs) (second_joined g.joined a b ne xs r.walk)).1) rs each)
+    (All-weaker (Route g.joined a b) (λ xs. second xs ≡ a → ⊥) (λ xs r e. joined_differ g simple a (second xs) (second_joined g.joined a b ne xs r.walk) (sym e)) rs each)
 
 -- A byte for each step, two for each route.
 pub routes_fit_lem : RoutesFit
@@ -159,6 +169,6 @@ routes_fit_lem g a b routes simple ha hb ne rules =
           (in_list_all _ (all_steps routes) (λ e i.
           let r = steps_of routes e i in
           walk_goes g.joined a b r.0 (all_in_list (Route g.joined a b) r.0 routes rules.each r.1).walk e.low e.high (steps_go r.0 e r.2)))
-          (all_differ routes (All-weaker _ _ (λ xs r. r.apart) routes rules.each) rules.disjoint),
+          (all_differ routes (All-weaker (Route g.joined a b) Apart (λ xs r. r.apart) routes rules.each) rules.disjoint),
       few_routes g a b routes simple ha ne rules.each rules.ascending,
     )

@@ -7,7 +7,7 @@ use Rattle.graph.specs.Graph.{Graph, Simple}
 use Rattle.graph.proofs.Edges.{same_edge_ends}
 use Rattle.flows.specs.Lists.{any, among}
 use Rattle.flows.specs.Reach.{reaches}
-use Rattle.flows.specs.Routes.{Walk, goes, edge_on}
+use Rattle.flows.specs.Routes.{Walk, Route, goes, edge_on}
 use Rattle.flows.proofs.Lists.{never_true, any_nil, among_head, among_tail, among_cases}
 use Rattle.flows.proofs.Reached.{reached_self}
 use Rattle.flows.proofs.Routes.{walk_reached}
@@ -92,7 +92,7 @@ module _ (g : Graph) (simple : Simple g) (a b : ℕ) (ha : a < g.order) where
 pub each_edge_on_one_route_lem : EachEdgeOnOneRoute
 each_edge_on_one_route_lem g a b routes c simple ha hb ne rules part l =
     met_once (λ xs (e : Edge). edge_on xs e.low e.high) routes c
-    (All-weaker _ _ (λ xs r. edge_met g simple a b ha c part xs r.walk) routes rules.each)
+    (All-weaker (Route g.joined a b) (λ xs. any (λ (e : Edge). edge_on xs e.low e.high) c ≡ true) (λ xs r. edge_met g simple a b ha c part xs r.walk) routes rules.each)
     (λ e i. kept_once (λ xs. edge_on xs e.low e.high) routes
     (pairwise_weaker ShareNoEdge _ (λ xs ys s. s e.low e.high) routes rules.disjoint))
     l
@@ -111,9 +111,9 @@ in_among w (v ∷ c) i = ⊎_elim (λ e. ap (among (v ∷ c)) e ∙ among_head v
 pub each_vertex_on_one_route_lem : EachVertexOnOneRoute
 each_vertex_on_one_route_lem g a b routes c simple ha hb ne off rules ca cb part l w h =
     met_once among routes c
-    (All-weaker _ _ (λ xs r. vertex_met g simple a b ha c part xs r.walk) routes rules.each)
+    (All-weaker (Route g.joined a b) (λ xs. any (among xs) c ≡ true) (λ xs r. vertex_met g simple a b ha c part xs r.walk) routes rules.each)
     (λ v i. kept_once (λ xs. among xs v) routes
-    (pairwise_weaker (ShareOnlyEnds a b) _ (λ xs ys s on. never_true _ (λ k. inner v (in_among v c i) (s v on k))) routes rules.apart))
+    (pairwise_weaker (ShareOnlyEnds a b) (λ xs ys. among xs v ≡ true → among ys v ≡ false) (λ xs ys s on. never_true _ (λ k. inner v (in_among v c i) (s v on k))) routes rules.apart))
     l w (among_in w c h)
   where
     inner : (v : ℕ) → among c v ≡ true → (v ≡ a) ⊎ (v ≡ b) → ⊥

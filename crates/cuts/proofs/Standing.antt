@@ -1,10 +1,10 @@
 -- Items that stand in lists: tests over lists, lists in which nothing stands twice, and
 -- sublists that hold all that passes a test.
-use Rattle.std.proofs.Common.{◌≡◌, ℕ, zero, suc, ◌+◌, ◌<◌, ◌≤◌, Bool, true, false, cond, ◌&&◌, ◌||◌, ◌⊎◌, List, [], ◌∷◌, ◌++◌, map, length, filter, sym, refl, ap, ◌∙◌, subst, ap₂, inl, inr, ⊎_elim, arith}
+use Rattle.std.proofs.Common.{◌≡◌, ℕ, zero, suc, ◌<◌, ◌≤◌, Bool, true, false, cond, ◌&&◌, ◌||◌, List, [], ◌∷◌, ◌++◌, length, filter, sym, refl, ap, ◌∙◌, subst, ap₂, inl, inr, ⊎_elim, arith}
 use Rattle.std.proofs.lemmas.Bool.{cases_Bool, and_parts, true≢false}
 use Rattle.flows.specs.Lists.{upto, any, all}
 use Rattle.cuts.specs.Choices.{In, find}
-use Rattle.cuts.proofs.Smallest.{Sub, sub_none, sub_take, sub_skip, in_left, in_right, in_either, kept_in, kept_out}
+use Rattle.cuts.proofs.Smallest.{Sub, sub_none, sub_take, sub_skip, in_left, in_right, in_either, kept_out}
 
 or_right : (x y : Bool) → y ≡ true → (x || y) ≡ true
 or_right true y h = refl

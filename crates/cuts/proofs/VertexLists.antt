@@ -1,14 +1,12 @@
 -- Lists of vertices as sets: how many members, and sublists of a list without repeats.
-use Rattle.std.proofs.Common.{◌≡◌, ℕ, zero, suc, ◌+◌, ◌<◌, ◌≤◌, Bool, true, false, cond, ◌&&◌, ◌||◌, eqb, ltb, List, [], ◌∷◌, ◌++◌, length, filter, sym, refl, ap, ◌∙◌, ap₂, inl, inr, ⊎_elim, arith, length-append}
-use Rattle.std.proofs.lemmas.List.Elements.{filter-append}
-use Rattle.std.proofs.lemmas.Bool.{false≢true, cases_eq, both_ways, cond-true, cond-false, and_from, and_parts, or_left, eq-eqb, ne_eqb, ltb-true}
+use Rattle.std.proofs.Common.{◌≡◌, ℕ, zero, suc, ◌+◌, ◌<◌, ◌≤◌, Bool, true, false, cond, ◌&&◌, ◌||◌, eqb, ltb, List, [], ◌∷◌, ◌++◌, length, filter, sym, refl, ap, ◌∙◌, ap₂, ⊎_elim, arith}
+use Rattle.std.proofs.lemmas.Bool.{false≢true, cases_eq, both_ways, cond-true, cond-false, or_left, eq-eqb, ne_eqb, ltb-true}
 use Rattle.graph.specs.Graph.{count}
 use Rattle.graph.proofs.Counts.{count_ext, count_none}
-use Rattle.flows.specs.Lists.{upto, all, among}
+use Rattle.flows.specs.Lists.{upto, among}
 use Rattle.flows.specs.Routes.{Apart}
 use Rattle.flows.proofs.Sums.{bit}
-use Rattle.flows.proofs.Lists.{never_true, any_nil, any_cons, all_cons, among_push, among_head, among_tail, among_cases, among_off, among_upto, among_kept}
-use Rattle.cuts.specs.Choices.{In, find}
+use Rattle.flows.proofs.Lists.{never_true, any_nil, any_cons, among_push, among_head, among_tail, among_cases, among_off, among_upto, among_kept}
 use Rattle.cuts.proofs.Smallest.{Sub, sub_none, sub_take, sub_skip}
 
 -- Of two tests, as numbers.

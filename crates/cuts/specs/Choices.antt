@@ -4,7 +4,7 @@
 --   In           an item stands in a list
 --   smallest     the passing sublists of the least length that has any
 --   innermost    the one whose side lies inside every other's
-use Rattle.std.specs.Prelude.{◌≡◌, ℕ, zero, suc, min, Bool, true, false, cond, ◌⊎◌, List, [], ◌∷◌, ◌++◌, map, length, filter}
+use Rattle.std.specs.Prelude.{◌≡◌, ℕ, zero, suc, min, Bool, cond, ◌⊎◌, List, [], ◌∷◌, ◌++◌, map, length, filter}
 use Rattle.flows.specs.Lists.{all, among}
 
 unfoldable pub choices : {X : Type 0} → ℕ → List X → List (List X)

@@ -1,6 +1,6 @@
 -- The two computations of connectivity: which pairs are run, in which order, when it stops,
 -- and what comes out.
-use Rattle.std.specs.Prelude.{ℕ, suc, ◌+◌, ◌-◌, ◌*◌, Bool, cond, not, ◌&&◌, ◌||◌, List, [], ◌∷◌, ◌++◌, map, length, take, Some, None, filter, Option, ◌==◌, nat_eq, nat_le, nat_lt}
+use Rattle.std.specs.Prelude.{ℕ, suc, ◌+◌, ◌-◌, ◌*◌, cond, not, ◌&&◌, ◌||◌, List, [], ◌∷◌, ◌++◌, map, length, take, Some, None, filter, Option, ◌==◌, nat_eq, nat_le, nat_lt}
 use Rattle.graph.specs.Graph.{Graph, degree}
 use Rattle.flows.specs.Lists.{upto, any, among}
 use Rattle.cuts.specs.declared.edge.Edge.{Edge}

@@ -1,5 +1,5 @@
 -- Cuts, values of pairs, and connectivity, all by taking things away.
-use Rattle.std.specs.Prelude.{ℕ, ◌-◌, Bool, cond, not, ◌&&◌, ◌||◌, List, filter, ◌==◌}
+use Rattle.std.specs.Prelude.{ℕ, ◌-◌, Bool, cond, not, ◌||◌, List, filter, ◌==◌}
 use Rattle.graph.specs.Graph.{Graph}
 use Rattle.flows.specs.Lists.{upto, any, all, among}
 use Rattle.cuts.specs.declared.edge.Edge.{Edge}

@@ -1,10 +1,9 @@
 -- The maps to check by, and what both computations give on them.
-use Rattle.std.specs.Prelude.{◌≡◌, ℕ, Bool, not, ◌&&◌, ◌||◌, List, [], ◌∷◌, length, Some, None, All, Option, ◌==◌, nat_le, nat_lt}
+use Rattle.std.specs.Prelude.{◌≡◌, ℕ, Bool, not, ◌&&◌, ◌||◌, List, [], ◌∷◌, length, Some, None, Option, ◌==◌, nat_le, nat_lt}
 use Rattle.graph.specs.Graph.{Graph}
 use Rattle.flows.specs.Lists.{among}
 use Rattle.cuts.specs.declared.edge.Edge.{Edge}
 use Rattle.cuts.specs.Edges.{edge, has_edge}
-use Rattle.cuts.specs.Cuts.{edge_connectivity, vertex_connectivity}
 use Rattle.cuts.specs.Computations.{Computed, edge_computation, vertex_computation}
 
 -- A graph by its edges.

@@ -6,7 +6,7 @@ use Rattle.flows.specs.Flow.{Digraph, Flow, residual_side}
 use Rattle.cuts.specs.declared.edge.Edge.{Edge}
 use Rattle.cuts.specs.Edges.{edge_list, without_edges, without_vertices, side}
 use Rattle.cuts.specs.Choices.{In, inside}
-use Rattle.cuts.specs.Cuts.{edges_part, edge_cuts, edge_value, nearest_edge_cut, vertices_part, others, vertex_cuts, vertex_value, nearest_vertex_cut}
+use Rattle.cuts.specs.Cuts.{edges_part, edge_cuts, edge_value, nearest_edge_cut, vertices_part, vertex_cuts, vertex_value, nearest_vertex_cut}
 
 -- Each edge as two arcs, one each way.
 abbrev pub both_ways : Graph → Digraph
