@@ -1,9 +1,9 @@
 -- Cuts are small: no pair has a value above the degree of an end.
-use Rattle.std.proofs.Common.{◌≡◌, ℕ, ◌-◌, ◌<◌, ◌≤◌, true, false, [], length, sym, ap, ◌∙◌, ⊎_elim, arith}
+use Rattle.std.proofs.Common.{◌≡◌, ℕ, ◌-◌, ◌<◌, ◌≤◌, true, false, length, ap, ⊎_elim, arith}
 use Rattle.std.proofs.lemmas.Bool.{cases_Bool, cond-true}
-use Rattle.graph.specs.Graph.{Graph, Simple, degree}
+use Rattle.graph.specs.Graph.{Graph, degree}
 use Rattle.graph.proofs.Edges.{few_edges_lem}
-use Rattle.cuts.specs.Cuts.{edge_value, nearest_edge_cut, vertex_value, nearest_vertex_cut, complete}
+use Rattle.cuts.specs.Cuts.{nearest_edge_cut, nearest_vertex_cut, complete}
 use Rattle.cuts.specs.Computations.{Computed, edge_computation, vertex_computation}
 use Rattle.cuts.proofs.EdgeNearest.{nearest_edge_cut_laws}
 use Rattle.cuts.proofs.VertexFlow.{nearest_cut}

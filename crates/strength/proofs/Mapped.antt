@@ -1,7 +1,9 @@
 -- The check maps: what the computations give by computing, and the connectivities by the
 -- theorems, where brute force would take too long, or by computing.
 use Rattle.std.proofs.Common.{◌≡◌, ◌≤◌, List, [], ◌∷◌, All, sym, refl, ap, ◌∙◌, arith}
-use Rattle.graph.specs.Graph.{Simple, count}
+use Rattle.std.specs.List.{AllByRecursion}
+use Rattle.std.proofs.lemmas.List.Elements.{All-nil, All-cons, All-head, All-tail, All-from_recursion}
+use Rattle.graph.specs.Graph.{Simple}
 use Rattle.flows.specs.Lists.{upto, any, all}
 use Rattle.flows.specs.Reach.{rounds, reached}
 use Rattle.cuts.specs.declared.edge.Edge.{Edge}
@@ -45,8 +47,8 @@ shared_simple : Simple shared_triangles
 unfolding good
 shared_simple = graph_of_simple 5 _ (omega arith) (omega arith) refl
 
-sized : All Sized check_maps
-sized = (
+each_sized : AllByRecursion Sized check_maps
+each_sized = (
   (apart_simple, omega arith),
   (
     (joined_simple, omega arith),
@@ -60,14 +62,27 @@ sized = (
   ),
 )
 
--- The vertex connectivities, by trying all sets of vertices.
-by_trying : All (λ c. vertex_connectivity c.map ≡ c.by_vertices.strength) check_maps
-unfolding upto any all rounds reached choices smallest_from vertex_connectivity
-by_trying = (refl, (refl, (refl, (refl, (refl, (refl, (refl, (refl, tt))))))))
+sized : All Sized check_maps
+sized = All-from_recursion Sized check_maps each_sized
 
-together : (cs : List Check) → All Sized cs → All Computes cs → All (λ c. vertex_connectivity c.map ≡ c.by_vertices.strength) cs → All Holds cs
-together [] s h v = tt
-together (c ∷ cs) s h v = ((h.0, by_theorem c s.0.0 s.0.1 h.0, v.0), together cs s.1 h.1 v.1)
+abbrev ByTrying : Check → Type 0
+ByTrying c = vertex_connectivity c.map ≡ c.by_vertices.strength
+
+-- The vertex connectivities, by trying all sets of vertices.
+each_by_trying : AllByRecursion ByTrying check_maps
+unfolding upto any all rounds reached choices smallest_from vertex_connectivity
+each_by_trying = (refl, (refl, (refl, (refl, (refl, (refl, (refl, (refl, tt))))))))
+
+by_trying : All ByTrying check_maps
+by_trying = All-from_recursion ByTrying check_maps each_by_trying
+
+together : (cs : List Check) → All Sized cs → All Computes cs → All ByTrying cs → All Holds cs
+together [] s h v = All-nil Holds
+together (c ∷ cs) s h v =
+    let size = All-head Sized c cs s in
+    let first = All-head Computes c cs h in
+    let tried = All-head ByTrying c cs v in
+    All-cons Holds c cs (first, by_theorem c size.0 size.1 first, tried) (together cs (All-tail Sized c cs s) (All-tail Computes c cs h) (All-tail ByTrying c cs v))
 
 pub check_maps_hold_lem : CheckMapsHold
 check_maps_hold_lem = together check_maps sized computed by_trying

@@ -1,8 +1,8 @@
 -- Wrong variants, refuted by computing on a map.
-use Rattle.std.proofs.Common.{◌≡◌, ℕ, ◌<◌, ◌≤◌, Bool, true, false, not, ◌&&◌, ◌||◌, eqb, ltb, leb, ◌⊎◌, List, [], ◌∷◌, sym, refl, ap, ◌∙◌, ap₂, ⊎_elim, arith}
-use Rattle.std.proofs.lemmas.Bool.{and_parts, or_cases, ltb-true, true≢false, cases_eq, cases_Bool, eq-eqb, ne_eqb, eqb-true}
+use Rattle.std.proofs.Common.{◌≡◌, ℕ, ◌<◌, ◌≤◌, Bool, true, false, not, ◌&&◌, ◌||◌, eqb, ltb, leb, List, [], ◌∷◌, sym, refl, ap, ◌∙◌, ap₂, ⊎_elim, arith}
+use Rattle.std.proofs.lemmas.Bool.{and_parts, or_cases, ltb-true, true≢false, cases_Bool, eq-eqb, eqb-true}
 use Rattle.std.proofs.lemmas.Bool.Decides.{nat_tests}
-use Rattle.graph.specs.Graph.{Graph, Simple, count, order_limit, same_edge}
+use Rattle.graph.specs.Graph.{Simple, count, order_limit}
 use Rattle.graph.proofs.Edges.{same_edge_swap, same_edge_ends}
 use Rattle.flows.specs.Lists.{upto, any, all}
 use Rattle.flows.specs.Reach.{rounds, reached}
@@ -11,7 +11,7 @@ use Rattle.cuts.specs.Edges.{is_between, has_edge}
 use Rattle.cuts.specs.Choices.{choices, smallest_from, find, least}
 use Rattle.cuts.specs.Cuts.{vertex_value, nearest_vertex_cut, vertex_connectivity}
 use Rattle.cuts.specs.Maps.{graph_of, cliques_and_hub, path_of_three, hub_joins, in_first, in_second}
-use Rattle.strength.specs.Variants.{rounds_with, seven, VariantsRefuted, SevenRefutes, NearEndRefuted}
+use Rattle.strength.specs.Variants.{rounds_with, VariantsRefuted, SevenRefutes, NearEndRefuted}
 
 pub seven_refutes_lem : SevenRefutes
 unfolding count upto any all rounds reached choices smallest_from find least vertex_value vertex_connectivity

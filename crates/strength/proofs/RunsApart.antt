@@ -2,7 +2,6 @@
 -- different vertices. A run of the round for w leads from w, a neighbour of r, to a later
 -- neighbour of r, and no earlier run starts at a neighbour of r from w up.
 use Rattle.std.proofs.Common.{◌≡◌, ℕ, zero, suc, ◌+◌, ◌-◌, ◌<◌, true, false, not, ◌||◌, eqb, List, [], ◌∷◌, ◌++◌, map, take, filter, sym, refl, ap, ◌∙◌, subst, inl, inr, arith}
-use Rattle.std.proofs.lemmas.List.Elements.{All-append}
 use Rattle.std.proofs.lemmas.Bool.{both_ways, or_parts, not-true, eq-eqb}
 use Rattle.graph.specs.Graph.{Graph, Simple, same_edge}
 use Rattle.graph.proofs.Edges.{same_edge_ends}

@@ -1,5 +1,5 @@
 -- The runs fit: different pairs of unjoined vertices are at most as many as there are such pairs.
-use Rattle.std.proofs.Common.{◌≡◌, ℕ, ◌<◌, ◌≤◌, Bool, true, false, not, ◌&&◌, List, [], ◌∷◌, length, sym, refl, ap, subst, ap₂, inl, inr, arith}
+use Rattle.std.proofs.Common.{◌≡◌, ℕ, ◌<◌, ◌≤◌, Bool, true, not, ◌&&◌, List, [], ◌∷◌, length, sym, refl, ap, subst, ap₂, inl, inr, arith}
 use Rattle.std.proofs.lemmas.Bool.{cases_Bool, and_from, not_from_false}
 use Rattle.graph.specs.Graph.{Graph, Simple, edges_below, removed}
 use Rattle.graph.proofs.Edges.{same_edge_swap, edges_removed}

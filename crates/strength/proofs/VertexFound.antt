@@ -1,13 +1,12 @@
 -- The cut of the vertex computation is a vertex cut of the strength's size.
-use Rattle.std.proofs.Common.{◌≡◌, ℕ, ◌<◌, ◌≤◌, Bool, true, false, not, ◌&&◌, ltb, List, length, sym, ap, ◌∙◌, ap₂, arith}
+use Rattle.std.proofs.Common.{◌≡◌, ℕ, ◌<◌, Bool, true, false, not, ◌&&◌, List, length, sym, ap, ◌∙◌, ap₂}
 use Rattle.std.proofs.lemmas.Bool.{lt-ltb, true≢false}
-use Rattle.graph.specs.Graph.{Graph, Simple}
+use Rattle.graph.specs.Graph.{Graph}
 use Rattle.flows.specs.Lists.{upto, all, among}
 use Rattle.flows.proofs.Lists.{among_upto, among_kept, any_at, all_at, never_true}
-use Rattle.cuts.specs.Edges.{without_vertices, side, linked}
-use Rattle.cuts.specs.Choices.{In}
-use Rattle.cuts.specs.Cuts.{vertices_part, others, vertex_cuts, vertex_value, nearest_vertex_cut, is_vertex_cut, outside_of, complete}
-use Rattle.cuts.specs.Computations.{Run, Computed, least_value, first_with, vertex_runs, vertex_computation}
+use Rattle.cuts.specs.Edges.{without_vertices, side}
+use Rattle.cuts.specs.Cuts.{vertices_part, others, nearest_vertex_cut, is_vertex_cut, outside_of}
+use Rattle.cuts.specs.Computations.{Computed, least_value, first_with, vertex_runs}
 use Rattle.cuts.proofs.Smallest.{smallest_each}
 use Rattle.cuts.proofs.VertexLaws.{no_end}
 use Rattle.cuts.proofs.VertexFlow.{nearest_cut}

@@ -1,18 +1,15 @@
 -- Separations and the definitions: a vertex cut is a separation and a separation a vertex cut,
 -- and the same for what parts two vertices.
-use Rattle.std.proofs.Common.{◌≡◌, ℕ, zero, suc, ◌<◌, ◌≤◌, Bool, true, false, cond, not, ◌&&◌, ◌||◌, List, [], ◌∷◌, length, filter, sym, refl, ap, ◌∙◌, arith, length-append}
-use Rattle.std.proofs.lemmas.List.Elements.{filter-append}
+use Rattle.std.proofs.Common.{◌≡◌, ℕ, ◌<◌, ◌≤◌, Bool, true, false, cond, not, ◌&&◌, ◌||◌, List, [], ◌∷◌, length, filter, sym, refl, ◌∙◌, arith}
 use Rattle.std.proofs.lemmas.Bool.{both_ways, and_parts, and_from, and_right, or_parts, or_from, not-true, not_from_false, lt-ltb, ltb-true}
-use Rattle.graph.specs.Graph.{Graph, Simple, count}
+use Rattle.graph.specs.Graph.{Graph, Simple}
 use Rattle.flows.specs.Lists.{upto, all, among}
 use Rattle.flows.specs.Reach.{reaches}
 use Rattle.flows.proofs.Lists.{never_true, among_upto, among_kept, any_from, any_at, all_at}
 use Rattle.flows.proofs.Reached.{reached_self, reached_step, reached_each, reached_least}
 use Rattle.cuts.specs.Edges.{without_vertices, side}
 use Rattle.cuts.specs.Cuts.{outside_of, is_vertex_cut}
-use Rattle.cuts.proofs.Smallest.{Sub}
-use Rattle.cuts.proofs.Standing.{sub_in}
-use Rattle.strength.proofs.EdgeLists.{item_among, among_item, all_off}
+use Rattle.strength.proofs.EdgeLists.{all_off}
 use Rattle.strength.proofs.VertexSets.{Separation}
 
 -- A filter of fewer items keeps no more.

@@ -1,8 +1,7 @@
 -- Variants of the vertex computation that look right and are wrong, each shown wrong by a map.
-use Rattle.std.specs.Prelude.{◌≡◌, ℕ, suc, ◌+◌, ◌-◌, ◌≤◌, Bool, true, false, cond, not, ◌&&◌, List, [], ◌∷◌, ◌++◌, take, filter, nat_le}
+use Rattle.std.specs.Prelude.{◌≡◌, ℕ, suc, ◌+◌, ◌-◌, ◌≤◌, true, false, cond, not, ◌&&◌, List, [], ◌∷◌, ◌++◌, take, filter, nat_le}
 use Rattle.graph.specs.Graph.{Graph, Simple}
 use Rattle.flows.specs.Lists.{upto, any, among}
-use Rattle.cuts.specs.declared.edge.Edge.{Edge}
 use Rattle.cuts.specs.Edges.{edge, side, without_vertices}
 use Rattle.cuts.specs.Cuts.{vertex_connectivity, nearest_vertex_cut, is_vertex_cut, complete}
 use Rattle.cuts.specs.Computations.{Run, least_degree, sparsest, neighbours, least_value, far_runs, near_runs}
