@@ -2,7 +2,7 @@ use Rattle.std.proofs.Common.{◌≡◌, ◌*◌, true, false, length, drop, sym
 use Rattle.std.proofs.lemmas.Bool.{true≢false}
 use Rattle.graph.specs.Graph.{Simple, with_edge}
 use Rattle.graph.proofs.Edges.{with_edge_simple}
-use Rattle.grid.specs.Rows.{grid, has, pairs}
+use Rattle.grid.specs.Rows.{grid, pairs}
 use Rattle.grid.proofs.Changes.{inside, grid_put}
 use Rattle.grid.proofs.Replies.{join_joined, join_laid, pairs_free}
 use Rattle.grid.proofs.Whole.{same_grid, simple_of}
@@ -25,8 +25,8 @@ returns-then-has c =
       rest = ap (λ t. drop (4 * n) t.words.now) c.has.ensures.same;
     }
 
-pub invariant-of-self-2 : goal.invariant-of-self-2
-invariant-of-self-2 c =
+pub invariant_of-self-2 : goal.invariant_of-self-2
+invariant_of-self-2 c =
     let s = c.args.self.now in
     let n = s.n in
     let u = c.args.u in
@@ -37,7 +37,14 @@ invariant-of-self-2 c =
     let simple = subst Simple (sym after)
     (with_edge_simple (grid n s.cells.words.now) u v (simple_of s) (omega arith) (omega arith) (λ q. omega arith)) in
     let size = ap (λ t. length t.words.now) c.has.ensures.same in
-    (s.some, (s.small, (omega (arith, size, c.put.ensures.size, s.room), (simple.symmetric, (simple.irreflexive, (simple.bounded, tt))))))
+    record {
+      some = s.some;
+      small = s.small;
+      room = omega (arith, size, c.put.ensures.size, s.room);
+      even = simple.symmetric;
+      loose = simple.irreflexive;
+      within = simple.bounded;
+    }
 
 pub returns : goal.returns
 returns c =

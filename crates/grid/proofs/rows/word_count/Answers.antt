@@ -8,5 +8,5 @@ returns c =
     let w = c.args.word in
     record { value = ones_count 64 w c.ranges.word.fits; small = ones-le 64 w c.ranges.word.fits }
 
-pub overflow-cast-result : goal.overflow-cast-result
-overflow-cast-result c = omega (arith, ones-le 64 c.args.word c.ranges.word.fits)
+pub overflow_cast-result : goal.overflow_cast-result
+overflow_cast-result c = omega (arith, ones-le 64 c.args.word c.ranges.word.fits)

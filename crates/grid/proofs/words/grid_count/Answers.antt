@@ -3,4 +3,4 @@ use Rattle.grid.proofs.Spans.{part_count}
 use Rattle.grid.proofs.words.grid_count.Goals as goal
 
 pub returns : goal.returns
-returns c = record { value = c.row-count.ensures ∙ part_count c.args.words.now c.args.u; same = refl }
+returns c = record { value = c.row_count.ensures ∙ part_count c.args.words.now c.args.u; same = refl }

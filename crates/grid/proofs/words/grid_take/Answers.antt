@@ -11,6 +11,6 @@ returns c =
       rest = past_row xs ys c.args.u (omega arith) (omega (arith, c.row_take.auto.row));
     }
 
-pub row-take-requires : goal.row-take-requires
-row-take-requires c =
+pub row_take-requires : goal.row_take-requires
+row_take-requires c =
     (simp (length-take, length-drop) (omega arith), (omega arith, row_part c.args.words.now c.args.u c.args.v (omega arith) ∙ c.requires.1.1))
