@@ -4,4 +4,4 @@ use Rattle.rows.proofs.flow.put_at.Goals as goal
 
 pub returns : goal.returns
 returns c =
-    carried_with c.args.words.now c.set-bit.new.words c.args.q c.args.p c.args.at (omega arith) (omega arith) (omega arith) c.set-bit.ensures.bits
+    carried_with c.args.words.now c.set_bit.new.words c.args.q c.args.p c.args.at (omega arith) (omega arith) (omega arith) c.set_bit.ensures.bits

@@ -7,19 +7,19 @@ use Rattle.rows.proofs.words.lowest.Goals as goal
 -- The bit that the word has, as the row's.
 found : (c : goal.In-Some) → (c.in-Some.j < 64) × (Some (64 * c.loop-i.i + c.in-Some.j) ≡ first (looked_for c.args.set c.args.words.now c.args.at) c.args.w (448 - c.args.w))
 found c =
-    in_word c.args.words.now c.args.at c.args.set c.args.w c.loop-i.i c.word-at.result c.word-for-word.result c.saturating-sub-k.result
-    (omega arith) (omega arith) c.word-at.ensures c.word-for-word.ensures c.saturating-sub-k.ensures c.loop-i.invariant c.in-Some.j c.in-Some.ensures
+    in_word c.args.words.now c.args.at c.args.set c.args.w c.loop-i.i c.word_at.result c.word_for-word.result c.saturating_sub-k.result
+    (omega arith) (omega arith) c.word_at.ensures c.word_for-word.ensures c.saturating_sub-k.ensures c.loop-i.invariant c.in-Some.j c.in-Some.ensures
 
-pub overflow-add-result : goal.overflow-add-result
-overflow-add-result c = omega (arith, (found c).0)
+pub overflow_add-result : goal.overflow_add-result
+overflow_add-result c = omega (arith, (found c).0)
 
 pub returns-in-Some : goal.returns-in-Some
 returns-in-Some c = (found c).1
 
 pub loop-i-preserved : goal.loop-i-preserved
 loop-i-preserved c =
-    past_word c.args.words.now c.args.at c.args.set c.args.w c.loop-i.i c.word-at.result c.word-for-word.result c.saturating-sub-k.result
-    (omega arith) (omega arith) c.word-at.ensures c.word-for-word.ensures c.saturating-sub-k.ensures c.loop-i.invariant c.in-default.ensures
+    past_word c.args.words.now c.args.at c.args.set c.args.w c.loop-i.i c.word_at.result c.word_for-word.result c.saturating_sub-k.result
+    (omega arith) (omega arith) c.word_at.ensures c.word_for-word.ensures c.saturating_sub-k.ensures c.loop-i.invariant c.in_default.ensures
 
 pub returns : goal.returns
 returns c = first_missing (looked_for c.args.set c.args.words.now c.args.at) c.args.w 448 (λ k a b. c.loop-i.invariant k a (omega arith))
