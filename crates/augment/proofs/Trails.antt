@@ -2,7 +2,7 @@
 use Rattle.std.proofs.Common.{◌≡◌, ℕ, zero, suc, ◌<◌, ◌≤◌, Bool, false, eqb, List, [], ◌∷◌, ◌++◌, reverse, length, get_or, All, sym, refl, ap, ◌∙◌, arith}
 use mathlib.Core.List.{reverse-cons}
 use Rattle.std.proofs.lemmas.List.{reverse-reverse, length-reverse}
-use Rattle.std.proofs.lemmas.List.Elements.{All-push}
+use Rattle.std.proofs.lemmas.List.Elements.{All-nil, All-cons, All-head, All-tail, All-push}
 use Rattle.std.proofs.lemmas.Bool.{ne_eqb}
 use Rattle.graph.specs.Graph.{count}
 use Rattle.graph.proofs.Counts.{count_most, count_one}
@@ -33,18 +33,22 @@ read before s t (suc n) (x ∷ (y ∷ xs)) w h =
 leads_on : (before : List ℕ) (y x t : ℕ) (xs : List ℕ) → LeadsBack before y t xs → get_or before y 0 ≡ x → All (λ z. z ≡ x → ⊥) xs
     → LeadsBack before x t (xs ++ (x ∷ []))
 leads_on before y x t [] w e o = absurd w
-leads_on before y x t (z ∷ []) w e o = (w.0, o.0, (sym e ∙ ap (λ (k : ℕ). get_or before k 0) (sym w.1), refl))
-leads_on before y x t (z ∷ (v ∷ xs)) w e o = (w.0, o.0, leads_on before y x (get_or before z 0) (v ∷ xs) w.2 e o.1)
+leads_on before y x t (z ∷ []) w e o = (w.0, All-head (λ k. k ≡ x → ⊥) z [] o, (sym e ∙ ap (λ (k : ℕ). get_or before k 0) (sym w.1), refl))
+leads_on before y x t (z ∷ (v ∷ xs)) w e o = (
+  w.0,
+  All-head (λ k. k ≡ x → ⊥) z (v ∷ xs) o,
+  leads_on before y x (get_or before z 0) (v ∷ xs) w.2 e (All-tail (λ k. k ≡ x → ⊥) z (v ∷ xs) o),
+)
 
 -- What holds of each item holds of each item of the list turned round.
 all_reverse : {X : Type 0} (P : X → Type 0) (xs : List X) → All P xs → All P (reverse xs)
-all_reverse P [] h = tt
-all_reverse P (x ∷ xs) h = rw (reverse-cons x xs) (All-push P (reverse xs) x (all_reverse P xs h.1) h.0)
+all_reverse P [] h = All-nil P
+all_reverse P (x ∷ xs) h = rw (reverse-cons x xs) (All-push P (reverse xs) x (all_reverse P xs (All-tail P x xs h)) (All-head P x xs h))
 
 -- A number that does not stand in a list is none of its items.
 none_same : (xs : List ℕ) (x : ℕ) → among xs x ≡ false → All (λ z. z ≡ x → ⊥) xs
-none_same [] x h = tt
-none_same (y ∷ xs) x h = let o = among_off y xs x h in (λ e. o.0 (sym e), none_same xs x o.1)
+none_same [] x h = All-nil (λ z. z ≡ x → ⊥)
+none_same (y ∷ xs) x h = let o = among_off y xs x h in All-cons (λ z. z ≡ x → ⊥) y xs (λ e. o.0 (sym e)) (none_same xs x o.1)
 
 -- A noted route turned round leads back.
 turned : (r : ℕ → ℕ → Bool) (before : List ℕ) (s t : ℕ) (xs : List ℕ) → Walk r s t xs → Apart xs → Noted before xs → LeadsBack before s t (reverse xs)
@@ -59,9 +63,9 @@ turned r before s t (x ∷ (y ∷ xs)) w a b =
 counted : (n : ℕ) (xs : List ℕ) → Apart xs → All (λ x. x < n) xs → length xs ≤ count (among xs) n
 counted n [] a h = omega arith
 counted n (x ∷ xs) a h =
-    let one = count_one (among xs) (among (x ∷ xs)) x n h.0 a.0 (among_head x xs)
+    let one = count_one (among xs) (among (x ∷ xs)) x n (All-head (λ y. y < n) x xs h) a.0 (among_head x xs)
     (λ k l d. any_cons (eqb k) x xs ∙ rw (ne_eqb k x d) refl) in
-    omega (arith, one, counted n xs a.1 h.1)
+    omega (arith, one, counted n xs a.1 (All-tail (λ y. y < n) x xs h))
 
 -- It has at most n items.
 pub apart_short : (n : ℕ) (xs : List ℕ) → Apart xs → All (λ x. x < n) xs → length xs ≤ n
