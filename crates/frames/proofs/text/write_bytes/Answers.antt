@@ -1,4 +1,4 @@
-use Rattle.std.proofs.Common.{◌≡◌, ℕ, List, [], ◌∷◌, ◌++◌, length, get_or, take, vec_items, sym, ap, ◌∙◌, append_assoc, arith}
+use Rattle.std.proofs.Common.{ℕ, List, ◌++◌, get_or, take, vec_items, ap, ◌∙◌, append_assoc, arith}
 use Rattle.std.proofs.lemmas.List.{take_all}
 use Rattle.frames.specs.Text.{hex_text, hex_byte}
 use Rattle.frames.proofs.Texts.{hex_none, hex_more}
@@ -12,7 +12,7 @@ loop-b-preserved c =
     let bytes = c.args.bytes.now in
     let out = vec_items c.args.out.now in
     let i = c.loop-b.b-index in
-    c.in-ok-write-byte.ensures ∙ ap (λ (s : List ℕ). s ++ hex_byte (get_or bytes i 0)) c.loop-b.invariant
+    c.in_ok-write_byte.ensures ∙ ap (λ (s : List ℕ). s ++ hex_byte (get_or bytes i 0)) c.loop-b.invariant
     ∙ append_assoc out (hex_text (take i bytes)) (hex_byte (get_or bytes i 0)) ∙ ap (λ (s : List ℕ). out ++ s) (hex_more bytes i (omega arith))
 
 pub returns : goal.returns

@@ -4,5 +4,5 @@ use Rattle.frames.proofs.text.write_reply.Goals as goal
 
 pub returns : goal.returns
 returns c =
-    c.in-ok-push.ensures.items ∙ ap (λ (s : List ℕ). s ++ (10 ∷ [])) c.in-ok-write-body.ensures
+    c.in_ok-push.ensures.items ∙ ap (λ (s : List ℕ). s ++ (10 ∷ [])) c.in_ok-write_body.ensures
     ∙ append_assoc (vec_items c.args.out.now) (hex_text (reply_bytes c.args.line c.args.reply)) (10 ∷ [])
