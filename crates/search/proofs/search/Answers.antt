@@ -11,77 +11,77 @@ use Rattle.search.proofs.Turns.{Turn, back_all, found_along, found_back, roomy_a
 use Rattle.search.proofs.Lines.{each, first_marks, along_found, found_at, none_at, nodes_at, state_at, trail_at, taken_first, arcs_done}
 use Rattle.search.proofs.search.Given as given
 use Rattle.search.proofs.search.Goals as goal
-use Rattle.search.proofs.search.Goals.{After-next-along, In-Some-next-along, After-next-back, In-Some-next-back}
+use Rattle.search.proofs.search.Goals.{After-next_along, In-Some-next_along, After-next_back, In-Some-next_back}
 
 -- While arcs are looked at, a node is, with its arcs up to the next.
-turn_ahead : (g : given.Over) (c : After-next-along g)
+turn_ahead : (g : given.Over) (c : After-next_along g)
     → Turn (g.P.Plan.digraph c.search.plan) (carried c.args.flow.now) c.args.from c.args.goal c.node-p.result c.along.ahead 0
     (map g.E.Waiting.node (held c.along.line)) (marked c.along.marks) c.along.before
-    (length (map g.E.Waiting.node (held c.pop.new.self)) + unmarked (marked c.search.marks) c.node-count-n.result)
+    (length (map g.E.Waiting.node (held c.pop.new.self)) + unmarked (marked c.search.marks) c.node_count-n.result)
 turn_ahead g c =
     c.along.invariant.4
     (taken_first g.P.Plan.digraph g.E.Waiting.node c.search.invariant.0 c.search.invariant.2 c.node-p.ensures c.in-Some.ensures.items
     c.search.invariant.4)
 
 -- The node that was found along an arc is fresh.
-next_ahead : (g : given.Over) (c : In-Some-next-along g)
+next_ahead : (g : given.Over) (c : In-Some-next_along g)
     → Found (fresh (marked c.along.marks) (along (g.P.Plan.digraph c.search.plan) (carried c.args.flow.now) c.node-p.result))
-    c.along.ahead (g.P.Plan.digraph c.search.plan).nodes c.in-Some-next-along.q
-next_ahead g c = along_found g.P.Plan.digraph c.along.invariant.0 _ _ _ _ c.search.invariant.2 c.in-Some-next-along.ensures.value
+    c.along.ahead (g.P.Plan.digraph c.search.plan).nodes c.in-Some-next_along.q
+next_ahead g c = along_found g.P.Plan.digraph c.along.invariant.0 _ _ _ _ c.search.invariant.2 c.in-Some-next_along.ensures.value
 
 -- There is room to note the node before it.
-wide_ahead : (g : given.Over) (c : In-Some-next-along g) → c.in-Some-next-along.q < length c.along.before
+wide_ahead : (g : given.Over) (c : In-Some-next_along g) → c.in-Some-next_along.q < length c.along.before
 wide_ahead g c =
     omega (arith, (next_ahead g c).below, g.P.Plan.small c.search.plan, c.requires.memory, c.search.auto.before, c.along.auto.before)
 
 -- The arcs of the node have been looked at, and the plan is as it was.
-nodes_behind : (g : given.Over) (c : After-next-back g) → c.node-count-n.result ≡ (g.P.Plan.digraph c.next-along.new.plan).nodes
-nodes_behind g c = nodes_at g.P.Plan.digraph (c.in-default-next-along.ensures.same ∙ c.along.invariant.0) c.search.invariant.2
+nodes_behind : (g : given.Over) (c : After-next_back g) → c.node_count-n.result ≡ (g.P.Plan.digraph c.next_along.new.plan).nodes
+nodes_behind g c = nodes_at g.P.Plan.digraph (c.in_default-next_along.ensures.same ∙ c.along.invariant.0) c.search.invariant.2
 
 -- While the flow is looked at, a node is, with all its arcs, and with the flow up to the next.
-turn_behind : (g : given.Over) (c : After-next-back g)
-    → Turn (g.P.Plan.digraph c.next-along.new.plan) (carried c.args.flow.now) c.args.from c.args.goal c.node-p.result
-    c.node-count-n.result c.back.behind
+turn_behind : (g : given.Over) (c : After-next_back g)
+    → Turn (g.P.Plan.digraph c.next_along.new.plan) (carried c.args.flow.now) c.args.from c.args.goal c.node-p.result
+    c.node_count-n.result c.back.behind
     (map g.E.Waiting.node (held c.back.line)) (marked c.back.marks) c.back.before
-    (length (map g.E.Waiting.node (held c.along.line)) + unmarked (marked c.along.marks) c.node-count-n.result)
+    (length (map g.E.Waiting.node (held c.along.line)) + unmarked (marked c.along.marks) c.node_count-n.result)
 turn_behind g c =
     c.back.invariant.2
-    (arcs_done g.P.Plan.digraph c.along.invariant.0 c.in-default-next-along.ensures.same c.search.invariant.2 c.in-default-next-along.ensures.value
-    (turn_ahead g (goal.at.After-next-back g c).After-next-along))
+    (arcs_done g.P.Plan.digraph c.along.invariant.0 c.in_default-next_along.ensures.same c.search.invariant.2 c.in_default-next_along.ensures.value
+    (turn_ahead g (goal.at.After-next_back g c).After-next_along))
 
 -- The node that was found back along the flow is fresh.
-next_behind : (g : given.Over) (c : In-Some-next-back g)
+next_behind : (g : given.Over) (c : In-Some-next_back g)
     → Found (fresh (marked c.back.marks) (back (carried c.args.flow.now) c.node-p.result))
-    c.back.behind (g.P.Plan.digraph c.next-along.new.plan).nodes c.in-Some-next-back.q
-next_behind g c = found_at _ _ (nodes_behind g (goal.at.In-Some-next-back g c).After-next-back) c.in-Some-next-back.ensures
+    c.back.behind (g.P.Plan.digraph c.next_along.new.plan).nodes c.in-Some-next_back.q
+next_behind g c = found_at _ _ (nodes_behind g (goal.at.In-Some-next_back g c).After-next_back) c.in-Some-next_back.ensures
 
 -- There is room to note the node before it.
-wide_behind : (g : given.Over) (c : In-Some-next-back g) → c.in-Some-next-back.q < length c.back.before
+wide_behind : (g : given.Over) (c : In-Some-next_back g) → c.in-Some-next_back.q < length c.back.before
 wide_behind g c =
-    let small = g.P.Plan.small c.next-along.new.plan in
+    let small = g.P.Plan.small c.next_along.new.plan in
     omega (arith, (next_behind g c).below, small, c.requires.memory, c.search.auto.before, c.along.auto.before, c.back.auto.before)
 
 pub search-init : goal.search-init
 search-init g c =
-    let same = sym c.node-count-n.ensures.same in
+    let same = sym c.node_count-n.ensures.same in
     let alone = ap (λ (z : List g.row.E.Denot). map g.E.Waiting.node z ++ (c.args.from ∷ [])) c.new-line.ensures.items in
     let marks = first_marks c.args.from c.clear.ensures.marks c.enter.ensures.marks in (
       refl,
       refl,
-      c.node-count-n.ensures.value ∙ ap (λ (x : g.row.P.Denot). (g.P.Plan.digraph x).nodes) same,
+      c.node_count-n.ensures.value ∙ ap (λ (x : g.row.P.Denot). (g.P.Plan.digraph x).nodes) same,
       omega (arith, c.enter.ensures.room, c.new-line.ensures.room, c.requires.memory),
       state_at g.P.Plan.digraph same (begun c.requires.start marks c.requires.goal (c.enter.ensures.nodes ∙ alone)),
     )
 
 pub bounds-before-q : goal.bounds-before-q
-bounds-before-q g c = wide_ahead g (goal.at.bounds-before-q g c).In-Some-next-along
+bounds-before-q g c = wide_ahead g (goal.at.bounds-before-q g c).In-Some-next_along
 
-pub enter-requires-in-Some-next-along : goal.enter-requires-in-Some-next-along
-enter-requires-in-Some-next-along g c =
-    let at = goal.at.enter-requires-in-Some-next-along g c in
-    let o = next_ahead g at.In-Some-next-along in
+pub enter-requires-in-Some-next_along : goal.enter-requires-in-Some-next_along
+enter-requires-in-Some-next_along g c =
+    let at = goal.at.enter-requires-in-Some-next_along g c in
+    let o = next_ahead g at.In-Some-next_along in
     let small = g.P.Plan.small c.search.plan in
-    let roomy = roomy_along (turn_ahead g at.After-next-along) (wide_ahead g at.In-Some-next-along) o in (
+    let roomy = roomy_along (turn_ahead g at.After-next_along) (wide_ahead g at.In-Some-next_along) o in (
       omega (arith, o.below, small),
       (
         omega (arith, c.requires.memory, c.search.auto.marks, c.along.auto.marks),
@@ -89,35 +89,35 @@ enter-requires-in-Some-next-along g c =
       ),
     )
 
-pub overflow-add-ahead : goal.overflow-add-ahead
-overflow-add-ahead g c = omega (arith, (next_ahead g (goal.at.overflow-add-ahead g c).In-Some-next-along).below, g.P.Plan.small c.search.plan)
+pub overflow_add-ahead : goal.overflow_add-ahead
+overflow_add-ahead g c = omega (arith, (next_ahead g (goal.at.overflow_add-ahead g c).In-Some-next_along).below, g.P.Plan.small c.search.plan)
 
 pub along-smaller : goal.along-smaller
 along-smaller g c =
-    let o = next_ahead g (goal.at.along-smaller g c).In-Some-next-along in
+    let o = next_ahead g (goal.at.along-smaller g c).In-Some-next_along in
     omega (arith, o.from, o.below, c.search.invariant.2)
 
 pub along-preserved : goal.along-preserved
 along-preserved g c =
     let at = goal.at.along-preserved g c in
-    let same = c.in-Some-next-along.ensures.same ∙ c.along.invariant.0 in (
+    let same = c.in-Some-next_along.ensures.same ∙ c.along.invariant.0 in (
       same,
       c.along.invariant.1,
       nodes_at g.P.Plan.digraph same c.search.invariant.2,
-      omega (arith, c.enter-in-Some-next-along.ensures.room, c.along.invariant.3),
-      λ _. by_along (turn_ahead g at.After-next-along) (wide_ahead g at.In-Some-next-along) (each c.enter-in-Some-next-along.ensures.marks)
-          c.enter-in-Some-next-along.ensures.nodes (sym c.is_goal.ensures ∙ c.if-is-goal.false) (next_ahead g at.In-Some-next-along),
+      omega (arith, c.enter-in-Some-next_along.ensures.room, c.along.invariant.3),
+      λ _. by_along (turn_ahead g at.After-next_along) (wide_ahead g at.In-Some-next_along) (each c.enter-in-Some-next_along.ensures.marks)
+          c.enter-in-Some-next_along.ensures.nodes (sym c.is_goal.ensures ∙ c.if-is_goal.false) (next_ahead g at.In-Some-next_along),
     )
 
-pub bounds-before-q-in-Some-next-back : goal.bounds-before-q-in-Some-next-back
-bounds-before-q-in-Some-next-back g c = wide_behind g (goal.at.bounds-before-q-in-Some-next-back g c).In-Some-next-back
+pub bounds-before-q-in-Some-next_back : goal.bounds-before-q-in-Some-next_back
+bounds-before-q-in-Some-next_back g c = wide_behind g (goal.at.bounds-before-q-in-Some-next_back g c).In-Some-next_back
 
-pub enter-requires-in-Some-next-back : goal.enter-requires-in-Some-next-back
-enter-requires-in-Some-next-back g c =
-    let at = goal.at.enter-requires-in-Some-next-back g c in
-    let o = next_behind g at.In-Some-next-back in
-    let small = g.P.Plan.small c.next-along.new.plan in
-    let roomy = roomy_back (turn_behind g at.After-next-back) (wide_behind g at.In-Some-next-back) o in (
+pub enter-requires-in-Some-next_back : goal.enter-requires-in-Some-next_back
+enter-requires-in-Some-next_back g c =
+    let at = goal.at.enter-requires-in-Some-next_back g c in
+    let o = next_behind g at.In-Some-next_back in
+    let small = g.P.Plan.small c.next_along.new.plan in
+    let roomy = roomy_back (turn_behind g at.After-next_back) (wide_behind g at.In-Some-next_back) o in (
       omega (arith, o.below, small),
       (
         omega (arith, c.requires.memory, c.search.auto.marks, c.along.auto.marks, c.back.auto.marks),
@@ -125,79 +125,79 @@ enter-requires-in-Some-next-back g c =
       ),
     )
 
-pub overflow-add-behind : goal.overflow-add-behind
-overflow-add-behind g c = omega (arith, (next_behind g (goal.at.overflow-add-behind g c).In-Some-next-back).below, g.P.Plan.small c.next-along.new.plan)
+pub overflow_add-behind : goal.overflow_add-behind
+overflow_add-behind g c = omega (arith, (next_behind g (goal.at.overflow_add-behind g c).In-Some-next_back).below, g.P.Plan.small c.next_along.new.plan)
 
 pub back-smaller : goal.back-smaller
 back-smaller g c =
     let at = goal.at.back-smaller g c in
-    let o = next_behind g at.In-Some-next-back in
-    omega (arith, o.from, o.below, nodes_behind g at.After-next-back)
+    let o = next_behind g at.In-Some-next_back in
+    omega (arith, o.from, o.below, nodes_behind g at.After-next_back)
 
 pub back-preserved : goal.back-preserved
 back-preserved g c =
     let at = goal.at.back-preserved g c in (
       c.back.invariant.0,
-      omega (arith, c.enter-in-Some-next-back.ensures.room, c.back.invariant.1),
-      λ _. by_back (turn_behind g at.After-next-back) (wide_behind g at.In-Some-next-back) (each c.enter-in-Some-next-back.ensures.marks)
-          c.enter-in-Some-next-back.ensures.nodes (sym c.is-goal-in-Some-next-back.ensures ∙ c.if-is-goal-2.false)
-          (next_behind g at.In-Some-next-back),
+      omega (arith, c.enter-in-Some-next_back.ensures.room, c.back.invariant.1),
+      λ _. by_back (turn_behind g at.After-next_back) (wide_behind g at.In-Some-next_back) (each c.enter-in-Some-next_back.ensures.marks)
+          c.enter-in-Some-next_back.ensures.nodes (sym c.is_goal-in-Some-next_back.ensures ∙ c.if-is_goal-2.false)
+          (next_behind g at.In-Some-next_back),
     )
 
 pub search-smaller : goal.search-smaller
 search-smaller g c =
     let at = goal.at.search-smaller g c in
     let a = ap (λ (k : ℕ). unmarked (marked c.along.marks) k) c.search.invariant.2 in
-    let b = ap (λ (k : ℕ). unmarked (marked c.back.marks) k) (nodes_behind g at.After-next-back) in
+    let b = ap (λ (k : ℕ). unmarked (marked c.back.marks) k) (nodes_behind g at.After-next_back) in
     let first = ap (λ (z : List g.row.E.Denot). length (map g.E.Waiting.node z)) c.in-Some.ensures.items in
-    omega (arith, (turn_ahead g at.After-next-along).sum, (turn_behind g at.After-next-back).sum, a, b, first)
+    omega (arith, (turn_ahead g at.After-next_along).sum, (turn_behind g at.After-next_back).sum, a, b, first)
 
 pub search-preserved : goal.search-preserved
 search-preserved g c =
     let at = goal.at.search-preserved g c in
-    let same = c.in-default-next-along.ensures.same ∙ c.along.invariant.0 ∙ c.search.invariant.0 in
-    let nodes = nodes_behind g at.After-next-back in (
+    let same = c.in_default-next_along.ensures.same ∙ c.along.invariant.0 ∙ c.search.invariant.0 in
+    let nodes = nodes_behind g at.After-next_back in (
       same,
       c.back.invariant.0,
       nodes,
       c.back.invariant.1,
-      state_at g.P.Plan.digraph same (back_all (turn_behind g at.After-next-back) nodes (none_at _ _ nodes c.in-default-next-back.ensures)),
+      state_at g.P.Plan.digraph same (back_all (turn_behind g at.After-next_back) nodes (none_at _ _ nodes c.in_default-next_back.ensures)),
     )
 
-pub returns-then-is-goal : goal.returns-then-is-goal
-returns-then-is-goal g c =
-    let at = goal.at.returns-then-is-goal g c in
-    let same = c.search.invariant.0 ∙ c.node-count-n.ensures.same in
+pub returns-then-is_goal : goal.returns-then-is_goal
+returns-then-is_goal g c =
+    let at = goal.at.returns-then-is_goal g c in
+    let same = c.search.invariant.0 ∙ c.node_count-n.ensures.same in
     record {
-      same = c.in-Some-next-along.ensures.same ∙ c.along.invariant.0 ∙ same;
+      same = c.in-Some-next_along.ensures.same ∙ c.along.invariant.0 ∙ same;
       found = λ _. trail_at g.P.Plan.digraph same (carried c.args.flow.now) c.args.from c.args.goal
-          (set c.along.before c.in-Some-next-along.q c.node-p.result)
-          (found_along (turn_ahead g at.After-next-along) (wide_ahead g at.In-Some-next-along) (next_ahead g at.In-Some-next-along)
-          (sym c.is_goal.ensures ∙ c.if-is-goal.true));
+          (set c.along.before c.in-Some-next_along.q c.node-p.result)
+          (found_along (turn_ahead g at.After-next_along) (wide_ahead g at.In-Some-next_along) (next_ahead g at.In-Some-next_along)
+          (sym c.is_goal.ensures ∙ c.if-is_goal.true));
       swept = λ z. absurd (both_ways true z refl);
       missed = λ z. absurd (both_ways true z refl);
     }
 
-pub returns-then-is-goal-2 : goal.returns-then-is-goal-2
-returns-then-is-goal-2 g c =
-    let at = goal.at.returns-then-is-goal-2 g c in
-    let same = c.in-default-next-along.ensures.same ∙ c.along.invariant.0 ∙ c.search.invariant.0 ∙ c.node-count-n.ensures.same in
+pub returns-then-is_goal-2 : goal.returns-then-is_goal-2
+returns-then-is_goal-2 g c =
+    let at = goal.at.returns-then-is_goal-2 g c in
+    let same = c.in_default-next_along.ensures.same ∙ c.along.invariant.0 ∙ c.search.invariant.0 ∙ c.node_count-n.ensures.same in
     record {
       same = same;
       found = λ _. trail_at g.P.Plan.digraph same (carried c.args.flow.now) c.args.from c.args.goal
-          (set c.back.before c.in-Some-next-back.q c.node-p.result)
-          (found_back (turn_behind g at.After-next-back) (wide_behind g at.In-Some-next-back) (next_behind g at.In-Some-next-back)
-          (sym c.is-goal-in-Some-next-back.ensures ∙ c.if-is-goal-2.true));
+          (set c.back.before c.in-Some-next_back.q c.node-p.result)
+          (found_back (turn_behind g at.After-next_back) (wide_behind g at.In-Some-next_back) (next_behind g at.In-Some-next_back)
+          (sym c.is_goal-in-Some-next_back.ensures ∙ c.if-is_goal-2.true));
       swept = λ z. absurd (both_ways true z refl);
       missed = λ z. absurd (both_ways true z refl);
     }
 
-pub returns-in-default : goal.returns-in-default
-returns-in-default g c =
-    let st = state_at g.P.Plan.digraph c.node-count-n.ensures.same c.search.invariant.4 in
-    let empty = ap (map g.E.Waiting.node) c.in-default.ensures.items in
+pub returns-in_default : goal.returns-in_default
+returns-in_default g c =
+    let st = state_at g.P.Plan.digraph c.node_count-n.ensures.same c.search.invariant.4 in
+    let empty = ap (map g.E.Waiting.node) c.in_default.ensures.items in
     record {
-      same = c.search.invariant.0 ∙ c.node-count-n.ensures.same;
+      same = c.search.invariant.0 ∙ c.node_count-n.ensures.same;
       found = λ z. absurd (both_ways c.search.found c.search.invariant.1 z);
       swept = λ _. ended empty st;
       missed = λ _. missed empty st;

@@ -6,12 +6,12 @@ use Rattle.connectivity.proofs.pair.edge_cut_between.Goals as goal
 
 pub settle-requires : goal.settle-requires
 settle-requires g c =
-    let m = c.check-ends.new.map in
+    let m = c.check_ends.new.map in
     let a = c.args.a in
     let b = c.args.b in
     let w = c.args.work in
     let s = sizes_of w.words.now w.numbers.now w.nodes.now w.steps.now c.args.cut.now in
-    let e = c.in-ok-check-ends.ensures in
+    let e = c.in_ok-check_ends.ensures in
     let ok = e.reply ∙ ap (λ n. ends_reply s (g.M.Map.graph n) a b) (sym e.same) in
     record {
       asked = are_two s (g.M.Map.graph m) a b ok;

@@ -7,14 +7,14 @@ use Rattle.connectivity.proofs.pair.vertex_cut_between.Goals as goal
 
 pub settle-requires : goal.settle-requires
 settle-requires g c =
-    let now = c.set-ends.new.self in
+    let now = c.set_ends.new.self in
     let m = now.map in
     let a = c.args.a in
     let b = c.args.b in
     let w = c.args.work in
     let s = sizes_of w.words.now w.numbers.now w.nodes.now w.steps.now c.args.cut.now in
-    let e = c.in-ok-check-loose.ensures in
-    let set = ends_set now _ a b c.set-ends.ensures in
+    let e = c.in_ok-check_loose.ensures in
+    let set = ends_set now _ a b c.set_ends.ensures in
     let kept = set.0 ∙ e.same in
     let ok = loose_ends (ends_reply s (g.M.Map.graph m) a b) (g.M.Map.graph m) a b (e.reply ∙ ap (λ n. loose_reply s (g.M.Map.graph n) a b) (sym kept)) in
     record {

@@ -12,9 +12,9 @@ returns g c =
     let run = c.args.self.now in
     let d = g.P.Plan.digraph p in
     let f = carried c.args.words.now in
-    let side : marked c.mark-side.new.marks ≡ residual_side d f run.from = fun_ext c.mark-side.ensures.side in
+    let side : marked c.mark_side.new.marks ≡ residual_side d f run.from = fun_ext c.mark_side.ensures.side in
     let told = g.P.Plan.told p run.from run.to f run.value c.requires.asked c.requires.largest.flow c.requires.largest.stuck in
     record {
-      same = c.mark-side.ensures.same;
+      same = c.mark_side.ensures.same;
       side = ap (g.P.Plan.crossing p run.from) side ∙ sym told.1;
     }

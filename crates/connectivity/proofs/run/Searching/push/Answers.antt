@@ -6,8 +6,8 @@ use Rattle.connectivity.specs.Runs.{Largest}
 use Rattle.connectivity.proofs.Found.{value_most}
 use Rattle.connectivity.proofs.run.Searching.push.Goals as goal
 
-pub overflow-add-result : goal.overflow-add-result
-overflow-add-result g c =
+pub overflow_add-result : goal.overflow_add-result
+overflow_add-result g c =
     let p = c.args.plan.now in
     let run = c.args.self in
     let most = value_most (g.P.Plan.digraph p) run.from run.to (carried c.advance-found.new.words) (run.value + 1) (c.if-found.ensures.pushed refl) in

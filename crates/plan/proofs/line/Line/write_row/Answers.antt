@@ -17,12 +17,12 @@ loop-v-init g c = (
 pub keep-at-requires : goal.keep-at-requires
 keep-at-requires g c =
     row_room (g.M.Map.graph c.args.self.now.map) (g.M.Map.graph c.loop-v.self.map) (marked c.args.marks.now) c.args.u
-    c.loop-v.w c.args.n c.in-Some.v c.args.cut.now c.loop-v.cut c.args.k c.loop-v.at c.edge-at-item.result
+    c.loop-v.w c.args.n c.in-Some.v c.args.cut.now c.loop-v.cut c.args.k c.loop-v.at c.edge_at-item.result
     c.requires.order c.loop-v.invariant.1 (ap (λ (s : Line g.row.M.Denot). g.M.Map.graph s.map) c.loop-v.invariant.0)
-    c.requires.room c.loop-v.invariant.3 c.in-Some.ensures c.edge-at-item.ensures.value
+    c.requires.room c.loop-v.invariant.3 c.in-Some.ensures c.edge_at-item.ensures.value
 
-pub overflow-add-w-in-Some : goal.overflow-add-w-in-Some
-overflow-add-w-in-Some g c =
+pub overflow_add-w-in-Some : goal.overflow_add-w-in-Some
+overflow_add-w-in-Some g c =
     let f = other_found (marked c.args.marks.now) c.args.u c.loop-v.w c.args.n c.in-Some.v c.in-Some.ensures in
     omega (arith, f.below, c.ranges.n.fits)
 
@@ -34,19 +34,19 @@ loop-v-smaller g c =
 pub loop-v-preserved : goal.loop-v-preserved
 loop-v-preserved g c =
     let f = other_found (marked c.args.marks.now) c.args.u c.loop-v.w c.args.n c.in-Some.v c.in-Some.ensures in (
-      c.edge-at-item.ensures.same ∙ c.loop-v.invariant.0,
+      c.edge_at-item.ensures.same ∙ c.loop-v.invariant.0,
       omega (arith, f.from, c.loop-v.invariant.1),
       omega (arith, f.below),
       row_more (g.M.Map.graph c.args.self.now.map) (g.M.Map.graph c.loop-v.self.map) (marked c.args.marks.now) c.args.u
-          c.loop-v.w c.args.n c.in-Some.v c.args.cut.now c.loop-v.cut c.args.k c.loop-v.at c.edge-at-item.result
+          c.loop-v.w c.args.n c.in-Some.v c.args.cut.now c.loop-v.cut c.args.k c.loop-v.at c.edge_at-item.result
           c.requires.order c.loop-v.invariant.1 (ap (λ (s : Line g.row.M.Denot). g.M.Map.graph s.map) c.loop-v.invariant.0)
-          c.requires.room c.loop-v.invariant.3 c.in-Some.ensures c.edge-at-item.ensures.value
+          c.requires.room c.loop-v.invariant.3 c.in-Some.ensures c.edge_at-item.ensures.value
           c.keep-at.new.buffer c.keep-at.result c.keep-at.ensures.next c.keep-at.ensures.items,
     )
 
 pub returns : goal.returns
 returns g c =
     let m = g.M.Map.graph c.args.self.now.map in
-    let all = row_all m (marked c.args.marks.now) c.args.u c.loop-v.w c.args.n c.requires.order c.loop-v.invariant.2 c.in-default.ensures in
+    let all = row_all m (marked c.args.marks.now) c.args.u c.loop-v.w c.args.n c.requires.order c.loop-v.invariant.2 c.in_default.ensures in
     let w = written_all c.args.cut.now c.loop-v.cut _ _ all c.args.k c.loop-v.at c.loop-v.invariant.3 in
     record { next = w.0; items = w.1; same = c.loop-v.invariant.0 }

@@ -11,8 +11,8 @@ pub loop-u-init : goal.loop-u-init
 loop-u-init g c = (refl, written_none c.args.cut.now 0 _ (gathered_none _ 0 (λ i l. absurd (omega arith))))
 
 -- Room for the cut is room for each row of it.
-pub write-row-k-requires : goal.write-row-k-requires
-write-row-k-requires g c =
+pub write_row-k-requires : goal.write_row-k-requires
+write_row-k-requires g c =
     let m = g.M.Map.graph c.order-n.new.self in
     let u = marked c.args.marks.now in
     let p = c.loop-u.u in
@@ -35,11 +35,11 @@ loop-u-preserved g c =
     let first = ap g.M.Map.graph c.order-n.ensures.same in
     let now_too = ap (λ (s : Line g.row.M.Denot). g.M.Map.graph s.map) c.loop-u.invariant.0 in
     let order = c.order-n.ensures.value ∙ ap (λ (h : Graph). h.order) (sym first) in (
-      c.write-row-k.ensures.same ∙ c.loop-u.invariant.0,
+      c.write_row-k.ensures.same ∙ c.loop-u.invariant.0,
       written_more c.args.cut.now c.loop-u.cut 0 c.loop-u.k (crossing_row m u) m.order p
           (omega (arith, order)) (edges_fit m _ u (length c.args.cut.now) first c.requires) c.loop-u.invariant.1 _
           (ap (λ (h : Graph). crossing_row h u p) now_too)
-          c.write-row-k.new.cut c.write-row-k.result c.write-row-k.ensures.next c.write-row-k.ensures.items,
+          c.write_row-k.new.cut c.write_row-k.result c.write_row-k.ensures.next c.write_row-k.ensures.items,
     )
 
 pub returns : goal.returns

@@ -10,8 +10,8 @@ use Rattle.plan.proofs.split.SplitPlan.write_cut.Goals as goal
 pub loop-v-init : goal.loop-v-init
 loop-v-init g c = (refl, written_none c.args.cut.now 0 _ (gathered_none _ 0 (λ i l. absurd (omega arith))))
 
-pub vertex-at-item-requires : goal.vertex-at-item-requires
-vertex-at-item-requires g c =
+pub vertex_at-item-requires : goal.vertex_at-item-requires
+vertex_at-item-requires g c =
     let first = ap g.M.Map.graph c.order-n.ensures.same in
     let now_too = ap (λ (s : Split g.row.M.Denot). g.M.Map.graph s.map) c.loop-v.invariant.0 in
     record {
@@ -30,8 +30,8 @@ keep-k-requires g c =
     let now_too = ap (λ (s : Split g.row.M.Denot). g.M.Map.graph s.map) c.loop-v.invariant.0 in
     let order = c.order-n.ensures.value ∙ ap (λ (h : Graph). h.order) (sym first) in
     written_room c.args.cut.now c.loop-v.cut 0 c.loop-v.k (vertices_at m a u) m.order v
-    (omega (arith, order)) (vertices_fit m _ a u (length c.args.cut.now) first c.requires) c.loop-v.invariant.1 (listed c.vertex-at-item.result)
-    (vertex_listed m _ a u v c.vertex-at-item.result now_too c.vertex-at-item.ensures.value)
+    (omega (arith, order)) (vertices_fit m _ a u (length c.args.cut.now) first c.requires) c.loop-v.invariant.1 (listed c.vertex_at-item.result)
+    (vertex_listed m _ a u v c.vertex_at-item.result now_too c.vertex_at-item.ensures.value)
 
 pub loop-v-preserved : goal.loop-v-preserved
 loop-v-preserved g c =
@@ -42,10 +42,10 @@ loop-v-preserved g c =
     let first = ap g.M.Map.graph c.order-n.ensures.same in
     let now_too = ap (λ (s : Split g.row.M.Denot). g.M.Map.graph s.map) c.loop-v.invariant.0 in
     let order = c.order-n.ensures.value ∙ ap (λ (h : Graph). h.order) (sym first) in (
-      c.vertex-at-item.ensures.same ∙ c.loop-v.invariant.0,
+      c.vertex_at-item.ensures.same ∙ c.loop-v.invariant.0,
       written_more c.args.cut.now c.loop-v.cut 0 c.loop-v.k (vertices_at m a u) m.order v
-          (omega (arith, order)) (vertices_fit m _ a u (length c.args.cut.now) first c.requires) c.loop-v.invariant.1 (listed c.vertex-at-item.result)
-          (vertex_listed m _ a u v c.vertex-at-item.result now_too c.vertex-at-item.ensures.value)
+          (omega (arith, order)) (vertices_fit m _ a u (length c.args.cut.now) first c.requires) c.loop-v.invariant.1 (listed c.vertex_at-item.result)
+          (vertex_listed m _ a u v c.vertex_at-item.result now_too c.vertex_at-item.ensures.value)
           c.keep-k.new.buffer c.keep-k.result c.keep-k.ensures.next c.keep-k.ensures.items,
     )
 
