@@ -6,7 +6,7 @@
 --   place                            where c belongs among the first k cells
 --   inserted_cells, removed_cells    the cells after a number is put in, and after one is taken out
 use Rattle.std.specs.Prelude.{◌≡◌, ℕ, zero, suc, ◌+◌, ◌-◌, ◌*◌, ◌<◌, ◌≤◌, min, max, Bool, true, false, not, ◌&&◌, ◌||◌, ltb, List, ◌∷◌, ◌++◌, take, drop, ◌==◌, nat_lt, slice_index, slice_range, refl}
-use Rattle.std.proofs.Common.{sym, ◌∙◌, ap, ap₂}
+use Rattle.std.proofs.Common.{sym, ap, ap₂}
 use Rattle.std.proofs.Math.Nat.{min_comm, max_comm}
 use Rattle.std.proofs.lemmas.Bool.{and_parts, and_left, and_right, not_from_true, eq-eqb, ltb-true}
 use Rattle.std.proofs.lemmas.Bool.Decides.{same_from_decides, Decides-eqb, Decides-like}

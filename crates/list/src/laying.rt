@@ -24,7 +24,7 @@ impl<'a> List<'a> {
     // Lays the edge between two vertices that are not joined: its number goes in where it
     // belongs.
     pub(crate) fn lay(&mut self, u: Vertex, v: Vertex)
-        requires ends { (u < self.old.n) × ((v < self.old.n) × ((u ≢ v))) }
+        requires ends { (u < self.old.n) × ((v < self.old.n) × (u ≢ v)) }
         requires apart { (graph_of self.old).joined u v ≡ false }
         requires room { self.old.count < capacity_of self.old }
         ensures graph { graph_of self.new ≡ with_edge (graph_of self.old) u v }
@@ -41,7 +41,7 @@ impl<'a> List<'a> {
     // Takes the edge between two joined vertices up: its number goes out, and the last cell
     // in use is free.
     pub(crate) fn take_up(&mut self, u: Vertex, v: Vertex)
-        requires ends { (u < self.old.n) × ((v < self.old.n) × ((u ≢ v))) }
+        requires ends { (u < self.old.n) × ((v < self.old.n) × (u ≢ v)) }
         requires joined { (graph_of self.old).joined u v ≡ true }
         ensures graph { graph_of self.new ≡ without_edge (graph_of self.old) u v }
         ensures most { capacity_of self.new ≡ capacity_of self.old }

@@ -5,21 +5,21 @@ use Rattle.list.proofs.List.lay.Goals as goal
 use Rattle.list.proofs.List.lay.Goals.{After-seek-at}
 
 -- The two vertices and the place of their number.
-sought : (c : After-seek-at) → Sought c.args.self.now.n c.args.self.now.count (codes_of c.args.self.now) c.args.u c.args.v c.edge-code-c.result c.seek-at.result
+sought : (c : After-seek-at) → Sought c.args.self.now.n c.args.self.now.count (codes_of c.args.self.now) c.args.u c.args.v c.edge_code-c.result c.seek-at.result
 sought c =
     let ends = c.requires.ends in
     let p = c.seek-at.ensures in
-    record { first = ends.0; second = ends.1.0; differ = ends.1.1; number = c.edge-code-c.ensures; value = p.value; bound = p.bound; below = p.below; above = p.above }
+    record { first = ends.0; second = ends.1.0; differ = ends.1.1; number = c.edge_code-c.ensures; value = p.value; bound = p.bound; below = p.below; above = p.above }
 
-pub overflow-add-self : goal.overflow-add-self
-overflow-add-self c = omega (arith, kept_few _ _ _ (kept_of c.args.self.now))
+pub overflow_add-self : goal.overflow_add-self
+overflow_add-self c = omega (arith, kept_few _ _ _ (kept_of c.args.self.now))
 
-pub invariant-of-self : goal.invariant-of-self
-invariant-of-self c =
+pub invariant_of-self : goal.invariant_of-self
+invariant_of-self c =
     let s = c.args.self.now in
-    let q = sought (goal.at.invariant-of-self c).After-seek-at in
+    let q = sought (goal.at.invariant_of-self c).After-seek-at in
     let k = inserted_kept _ _ _ _ _ _ _ (kept_of s) q c.insert.new.self.codes.now c.requires.room c.requires.apart c.insert.ensures in
-    (k.some, (k.small, (k.fits, (k.rising, (k.tally, tt)))))
+    record { some = k.some; small = k.small; fits = k.fits; rising = k.rising; tally = k.tally }
 
 pub returns : goal.returns
 returns c =

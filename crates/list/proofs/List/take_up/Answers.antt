@@ -5,11 +5,11 @@ use Rattle.list.proofs.List.take_up.Goals as goal
 use Rattle.list.proofs.List.take_up.Goals.{After-seek-at}
 
 -- The two vertices and the place of their number.
-sought : (c : After-seek-at) → Sought c.args.self.now.n c.args.self.now.count (codes_of c.args.self.now) c.args.u c.args.v c.edge-code-c.result c.seek-at.result
+sought : (c : After-seek-at) → Sought c.args.self.now.n c.args.self.now.count (codes_of c.args.self.now) c.args.u c.args.v c.edge_code-c.result c.seek-at.result
 sought c =
     let ends = c.requires.ends in
     let p = c.seek-at.ensures in
-    record { first = ends.0; second = ends.1.0; differ = ends.1.1; number = c.edge-code-c.ensures; value = p.value; bound = p.bound; below = p.below; above = p.above }
+    record { first = ends.0; second = ends.1.0; differ = ends.1.1; number = c.edge_code-c.ensures; value = p.value; bound = p.bound; below = p.below; above = p.above }
 
 pub remove-requires : goal.remove-requires
 remove-requires c =
@@ -17,18 +17,18 @@ remove-requires c =
     let there = standing _ _ _ _ _ _ _ (kept_of s) (sought (goal.at.remove-requires c).After-seek-at) c.requires.joined in
     record { fits = s.fits; within = there.0 }
 
-pub overflow-sub-self : goal.overflow-sub-self
-overflow-sub-self c =
-    let there = standing _ _ _ _ _ _ _ (kept_of c.args.self.now) (sought (goal.at.overflow-sub-self c).After-seek-at) c.requires.joined in
+pub overflow_sub-self : goal.overflow_sub-self
+overflow_sub-self c =
+    let there = standing _ _ _ _ _ _ _ (kept_of c.args.self.now) (sought (goal.at.overflow_sub-self c).After-seek-at) c.requires.joined in
     omega (arith, there.0)
 
-pub invariant-of-self : goal.invariant-of-self
-invariant-of-self c =
+pub invariant_of-self : goal.invariant_of-self
+invariant_of-self c =
     let s = c.args.self.now in
-    let q = sought (goal.at.invariant-of-self c).After-seek-at in
+    let q = sought (goal.at.invariant_of-self c).After-seek-at in
     let there = standing _ _ _ _ _ _ _ (kept_of s) q c.requires.joined in
     let k = removed_kept _ _ _ _ _ _ _ (kept_of s) q c.remove.new.self.codes.now there.0 there.1 c.requires.joined c.remove.ensures in
-    (k.some, (k.small, (k.fits, (k.rising, (k.tally, tt)))))
+    record { some = k.some; small = k.small; fits = k.fits; rising = k.rising; tally = k.tally }
 
 pub returns : goal.returns
 returns c =

@@ -1,6 +1,5 @@
 use Rattle.std.proofs.Common.{◌≡◌, ℕ, ◌≤◌, Bool, true, false, cond, sym, ap, ◌∙◌, arith}
 use Rattle.graph.proofs.Counts.{count_zero, count_more, count_most}
-use Rattle.graph.specs.Graph.{count}
 use Rattle.list.specs.Cells.{listing}
 use Rattle.list.proofs.codes.degree_of.Goals as goal
 use Rattle.list.proofs.codes.degree_of.Goals.{then-joins, else-joins}
@@ -8,8 +7,8 @@ use Rattle.list.proofs.codes.degree_of.Goals.{then-joins, else-joins}
 pub loop-v-init : goal.loop-v-init
 loop-v-init c = sym (count_zero ((listing c.args.n c.args.count c.args.codes.now).joined c.args.u))
 
-pub overflow-add-found : goal.overflow-add-found
-overflow-add-found c =
+pub overflow_add-found : goal.overflow_add-found
+overflow_add-found c =
     let p = (listing c.args.n c.args.count c.args.codes.now).joined c.args.u in
     let most : c.loop-v.found ≤ c.loop-v.v = omega (arith, count_most p c.loop-v.v, c.loop-v.invariant) in
     omega arith

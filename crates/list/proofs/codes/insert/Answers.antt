@@ -7,14 +7,14 @@ use Rattle.list.proofs.codes.insert.Goals as goal
 pub returns : goal.returns
 returns c =
     let xs = c.args.codes.now in
-    let ys = c.move-up.new.codes in
+    let ys = c.move_up.new.codes in
     let k = c.args.count in
     let at = c.args.at in
     let x = c.args.c in
-    let e = c.move-up.ensures in
+    let e = c.move_up.ensures in
     let room : at < length ys = omega arith in
     let filled : Inserted xs (set ys at x) k at x = record {
-      size = length-set ys at x ∙ c.move-up.auto.codes;
+      size = length-set ys at x ∙ c.move_up.auto.codes;
       before = λ i h. let ne : i ≢ at = omega arith in get_or-set_other ys at i x 0 ne ∙ e.before i h;
       here = get_or-set_same ys at x 0 room;
       after = λ i h m. let ne : i + 1 ≢ at = omega arith in get_or-set_other ys at (i + 1) x 0 ne ∙ e.moved i h m;

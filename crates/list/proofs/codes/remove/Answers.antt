@@ -7,17 +7,17 @@ use Rattle.list.proofs.codes.remove.Goals as goal
 pub returns : goal.returns
 returns c =
     let xs = c.args.codes.now in
-    let ys = c.move-down.new.codes in
+    let ys = c.move_down.new.codes in
     let k = c.args.count in
     let at = c.args.at in
     let last = k - 1 in
-    let e = c.move-down.ensures in
+    let e = c.move_down.ensures in
     let room : last < length ys = omega arith in
     let closed : Removed xs (set ys last free) k at = record {
-      size = length-set ys last free ∙ c.move-down.auto.codes;
+      size = length-set ys last free ∙ c.move_down.auto.codes;
       before = λ i h. let ne : i ≢ last = omega arith in get_or-set_other ys last i free 0 ne ∙ e.before i h;
       after = λ i h m. let ne : i ≢ last = omega arith in get_or-set_other ys last i free 0 ne ∙ e.moved i h m;
       freed = get_or-set_same ys last free 0 room;
       rest = λ i h. let ne : i ≢ last = omega arith in get_or-set_other ys last i free 0 ne ∙ e.behind i h;
     } in
-    c.mark-free.ensures ∙ removed_once xs (set ys last free) (removed_cells xs k at) k at c.requires.within closed (removed_places xs k at c.requires.within c.requires.fits)
+    c.mark_free.ensures ∙ removed_once xs (set ys last free) (removed_cells xs k at) k at c.requires.within closed (removed_places xs k at c.requires.within c.requires.fits)

@@ -1,5 +1,4 @@
-use Rattle.std.proofs.Common.{◌≤◌, arith}
-use Rattle.graph.specs.Graph.{order_limit}
+use Rattle.std.proofs.Common.{arith}
 use Rattle.list.specs.Meaning.{lent_cells}
 use Rattle.model.proofs.Replies.{make_accepted}
 use Rattle.list.proofs.editing.ListEditable.make.Goals as goal
