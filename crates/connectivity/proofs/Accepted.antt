@@ -7,7 +7,7 @@
 --   loose_ends                 and where that was asked, two that are not joined
 --   ends_set                   a split whose ends were set has them, over the same map
 --   edge_room, vertex_room     the nearest cut fits the buffer
-use Rattle.std.proofs.Common.{◌≡◌, ℕ, ◌-◌, ◌≤◌, Bool, true, false, cond, not, ◌&&◌, ◌||◌, eqb, ltb, List, length, take, Ok, Err, sym, refl, ap, arith, length-take}
+use Rattle.std.proofs.Common.{◌≡◌, ℕ, ◌-◌, ◌≤◌, Bool, true, false, cond, not, ◌&&◌, eqb, ltb, List, length, take, Ok, Err, sym, refl, ap, arith, length-take}
 use Rattle.std.proofs.lemmas.Bool.Decides.{nat_tests}
 use Rattle.graph.specs.Graph.{Graph, Simple}
 use Rattle.model.specs.Table.{Reply}
@@ -18,7 +18,7 @@ use Rattle.plan.specs.declared.split.Split.{Split}
 use Rattle.plan.specs.Pairs.{Two}
 use Rattle.connectivity.specs.declared.work.Sizes.{Sizes}
 use Rattle.connectivity.specs.Work.{Enough, short}
-use Rattle.connectivity.specs.Asking.{ends_reply, then_loose, loose_reply}
+use Rattle.connectivity.specs.Asking.{ends_reply, then_loose}
 
 -- A test that would refuse has failed.
 not_err : (t : Bool) (e : Refusal) (r : Reply) → Ok tt ≡ cond t (Err e) r → (t ≡ false) × (Ok tt ≡ r)

@@ -5,6 +5,7 @@
 --   read_adds     pushing along what is read back adds one to the flow
 --   value_most    a flow's value is at most the number of nodes
 use Rattle.std.proofs.Common.{◌≡◌, ℕ, ◌+◌, ◌<◌, ◌≤◌, Bool, true, List, [], ◌∷◌, All, sym, subst, arith}
+use Rattle.std.proofs.lemmas.List.Elements.{All-nil, All-cons}
 use Rattle.graph.proofs.Counts.{count_most}
 use Rattle.flows.specs.Routes.{Walk}
 use Rattle.flows.specs.Flow.{Digraph, Sound, Flow, residual, pushed}
@@ -20,14 +21,13 @@ value_most d s t f v fl = omega (arith, fl.value, count_most (λ q. f s q) d.nod
 -- Steps that stay below n make walks that do.
 inside : (r : ℕ → ℕ → Bool) (n : ℕ) → ((p q : ℕ) → r p q ≡ true → q < n) → (a b : ℕ) (xs : List ℕ) → a < n → Walk r a b xs → All (λ x. x < n) xs
 inside r n stays a b [] h w = absurd w
-inside r n stays a b (x ∷ []) h w = (subst (λ (z : ℕ). z < n) (sym w.0) h, tt)
+inside r n stays a b (x ∷ []) h w = All-cons (λ z. z < n) x [] (subst (λ (z : ℕ). z < n) (sym w.0) h) (All-nil (λ z. z < n))
 inside r n stays a b (x ∷ (y ∷ xs)) h w =
-    (subst (λ (z : ℕ). z < n) (sym w.0) h, inside r n stays y b (y ∷ xs) (stays x y w.1) w.2)
+    All-cons (λ z. z < n) x (y ∷ xs) (subst (λ (z : ℕ). z < n) (sym w.0) h) (inside r n stays y b (y ∷ xs) (stays x y w.1) w.2)
 
 -- What is below a limit is below a larger one.
 all_below : (m n : ℕ) (xs : List ℕ) → m ≤ n → All (λ x. x < m) xs → All (λ x. x < n) xs
-all_below m n [] h a = tt
-all_below m n (x ∷ xs) h a = (omega (arith, a.0), all_below m n xs h a.1)
+all_below m n xs h a k d l = omega (arith, a k d l)
 
 module _ (d : Digraph) (s t : ℕ) (f : ℕ → ℕ → Bool) (v : ℕ) (small : d.nodes ≤ 402) (sound : Sound d) (fl : Flow d s t f v) (hs : s < d.nodes)
     (before : List ℕ) (trail : Trail (residual d f) s t before) where

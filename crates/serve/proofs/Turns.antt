@@ -1,5 +1,5 @@
 -- A session that is answered line by line.
-use Rattle.std.proofs.Common.{◌≡◌, ℕ, suc, ◌+◌, ◌-◌, ◌<◌, ◌≤◌, List, [], ◌∷◌, ◌++◌, length, get_or, take, drop, Ok, Err, Result, sym, refl, ap, ◌∙◌, subst, append_assoc, add-one, arith}
+use Rattle.std.proofs.Common.{◌≡◌, ℕ, suc, ◌+◌, ◌-◌, ◌<◌, ◌≤◌, List, [], ◌∷◌, ◌++◌, length, get_or, take, drop, Ok, Err, Result, sym, refl, ap, ◌∙◌, subst, append_assoc, add-one}
 use Rattle.std.proofs.lemmas.List.{append-nil}
 use Rattle.model.specs.declared.call.Answer.{Answer}
 use Rattle.model.specs.declared.call.Call.{Call}
@@ -12,7 +12,7 @@ use Rattle.frames.specs.declared.fault.FrameFault.{FrameFault}
 use Rattle.frames.specs.declared.fault.SessionFault.TheVariants as fault
 use Rattle.frames.specs.Frames.{request}
 use Rattle.frames.specs.Text.{Reported, reply_text}
-use Rattle.serve.specs.Lines.{newline, lines}
+use Rattle.serve.specs.Lines.{newline}
 use Rattle.serve.specs.Served.{RightRequest, RightLine, after_request, after_line, AllRight, session_text, SessionText}
 use Rattle.serve.specs.Progress.{Rests}
 use Rattle.serve.proofs.Splits.{lines_none, next_line}

@@ -1,5 +1,5 @@
 -- An accepted question has two vertices, enough work memory, and room for every cut.
-use Rattle.std.proofs.Common.{◌≡◌, sym, ap, ◌∙◌}
+use Rattle.std.proofs.Common.{sym, ap, ◌∙◌}
 use Rattle.connectivity.specs.Asking.{sizes_of, ends_reply}
 use Rattle.connectivity.proofs.Accepted.{for_steps, for_nodes, first_words, are_two, edge_room}
 use Rattle.connectivity.proofs.pair.edge_cut_between.Goals as goal

@@ -1,6 +1,6 @@
 -- An accepted question has two unjoined vertices, which are now the ends, enough work memory, and
 -- room for every cut.
-use Rattle.std.proofs.Common.{◌≡◌, sym, ap, ◌∙◌}
+use Rattle.std.proofs.Common.{sym, ap, ◌∙◌}
 use Rattle.connectivity.specs.Asking.{sizes_of, ends_reply, loose_reply}
 use Rattle.connectivity.proofs.Accepted.{loose_ends, ends_set, for_steps, for_nodes, first_words, are_two, vertex_room}
 use Rattle.connectivity.proofs.pair.vertex_cut_between.Goals as goal

@@ -1,6 +1,6 @@
 -- A run begins with the flow of value 0, and each push that goes on raises its value, which no
 -- number of nodes passes.
-use Rattle.std.proofs.Common.{◌≡◌, ℕ, ◌+◌, sym, refl, ap, ◌∙◌, subst, arith}
+use Rattle.std.proofs.Common.{◌≡◌, ◌+◌, sym, refl, ap, subst, arith}
 use Rattle.flows.specs.Flow.{Digraph}
 use Rattle.rows.specs.Flow.{carried}
 use Rattle.connectivity.specs.declared.run.Searching.{Searching}

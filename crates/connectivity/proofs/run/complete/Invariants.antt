@@ -1,6 +1,6 @@
 -- Between pushes the words hold a flow of the run's value, which rises and never passes the
 -- number of nodes.
-use Rattle.std.proofs.Common.{◌≡◌, ◌+◌, ◌-◌, length}
+use Rattle.std.proofs.Common.{◌≡◌, ◌-◌}
 use Rattle.connectivity.specs.Runs.{Held}
 use Rattle.connectivity.proofs.run.complete.Given as goal
 

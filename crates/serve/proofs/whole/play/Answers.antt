@@ -1,7 +1,6 @@
-use Rattle.std.proofs.Common.{◌≡◌, ℕ, ◌+◌, ◌-◌, List, take, drop, vec_items, sym, ap, ◌∙◌, subst, arith}
-use Rattle.model.specs.Model.{State, made}
+use Rattle.std.proofs.Common.{vec_items, arith}
+use Rattle.model.specs.Model.{made}
 use Rattle.session.specs.Kept.{model_of}
-use Rattle.serve.specs.Progress.{Rests}
 use Rattle.serve.proofs.Turns.{rests_turn, rests_none}
 use Rattle.serve.proofs.whole.play.Goals as goal
 
@@ -9,17 +8,17 @@ pub loop-at-preserved : goal.loop-at-preserved
 loop-at-preserved g c =
     let input = c.args.input.now in
     let at = c.loop-at.at in
-    let end = c.line-end-end.result in
+    let end = c.line_end-end.result in
     let line = c.loop-at.line in
     let was = made (model_of g.S.Map.graph g.S.Editable.most c.loop-at.planner) in
-    let found = c.line-end-end.ensures in (
+    let found = c.line_end-end.ensures in (
       omega (arith, found.low, c.loop-at.invariant.0),
       omega (arith, found.high, c.requires.0),
       λ lent rests.
           rests_turn lent input was (made (model_of g.S.Map.graph g.S.Editable.most c.answer-reply.new.planner)) at end line
-          (vec_items c.loop-at.out) (vec_items c.write-reply.new.out) c.answer-reply.result
+          (vec_items c.loop-at.out) (vec_items c.write_reply.new.out) c.answer-reply.result
           c.loop-at-test.true found.low found.high found.none found.here (c.loop-at.invariant.2 lent rests)
-          (c.answer-reply.ensures.right lent) (c.answer-reply.ensures.after lent) c.in-ok-write-reply.ensures,
+          (c.answer-reply.ensures.right lent) (c.answer-reply.ensures.after lent) c.in_ok-write_reply.ensures,
     )
 
 pub returns : goal.returns

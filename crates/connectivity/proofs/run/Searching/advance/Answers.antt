@@ -1,5 +1,5 @@
 -- The path that was noted is read back, and pushing along it adds one.
-use Rattle.std.proofs.Common.{◌≡◌, ℕ, ◌+◌, ◌<◌, Bool, List, take, All, sym, refl, ap, ◌∙◌, subst, arith, rules}
+use Rattle.std.proofs.Common.{ℕ, ◌+◌, ◌<◌, Bool, List, take, All, sym, refl, ap, ◌∙◌, subst, arith, rules}
 use native.Mathlib.Nat.{sub-zero}
 use Rattle.flows.specs.Flow.{Flow, pushed}
 use Rattle.rows.specs.Flow.{carried}

@@ -1,6 +1,6 @@
 -- A value is never above the number of nodes, so one more fits; and where no path leads on, the
 -- flow has the value of the pair.
-use Rattle.std.proofs.Common.{◌≡◌, ℕ, ◌+◌, false, List, sym, refl, subst, arith}
+use Rattle.std.proofs.Common.{ℕ, ◌+◌, List, sym, refl, subst, arith}
 use Rattle.rows.specs.Flow.{carried}
 use Rattle.connectivity.specs.Runs.{Largest}
 use Rattle.connectivity.proofs.Found.{value_most}
