@@ -2,6 +2,8 @@
 #![tactic(auto)]
 
 #[cfg(test)]
+mod claim;
+#[cfg(test)]
 mod library;
 #[cfg(test)]
 mod limits;

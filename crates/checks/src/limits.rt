@@ -1,23 +1,21 @@
 // Limits of the format: orders, strikes, letters, line ends, and long inputs.
+use crate::claim::check;
 use delivery::{over_grid, over_list};
-use std::process::Abort;
 use std::test::Fail;
 
 // Whether an input of that many digits over a grid is answered so.
-fn long_input(rt: &(impl Abort + AllocGlobal), digits: usize, expected: &[u8]) -> Result<(), Fail> {
+fn long_input(rt: &impl AllocGlobal, digits: usize, expected: &[u8]) -> Result<(), Fail> {
     let input = vec![in rt.alloc(); 48u8; digits]?;
     let mut words = [0u64; 4];
     let out = over_grid(rt.alloc(), &mut words, &input)?;
-    assert_eq!(rt; out.as_slice(), expected);
-    Ok(())
+    check(out.as_slice() == expected)
 }
 
 #[test]
 fn two_hundred(rt: HostRuntime) -> Result<(), Fail> {
     let mut words = vec![in rt.alloc(); 0u64; 804]?;
     let out = over_grid(rt.alloc(), &mut words, b"01C9\n01C8\n02C7C6\n02C8C7\n")?;
-    assert_eq!(rt; out.as_slice(), b"FF010300010000\n81\n82\nFF030300040000\n");
-    Ok(())
+    check(out.as_slice() == b"FF010300010000\n81\n82\nFF030300040000\n".as_slice())
 }
 
 #[test]
@@ -33,9 +31,8 @@ fn seventeenth_strike(rt: HostRuntime) -> Result<(), Fail> {
     let mut cells = [0u16; 20];
     let said = over_list(rt.alloc(), &mut cells, &out)?;
     let answers = said.as_slice();
-    assert!(rt; answers.len() == 3 * 34 + 15);
-    assert_eq!(rt; &answers[93..], b"82\n84\n82\nFF090300230000\n");
-    Ok(())
+    check(answers.len() == 3 * 34 + 15)?;
+    check(&answers[93..] == b"82\n84\n82\nFF090300230000\n".as_slice())
 }
 
 // The vertices 0 and v in hexadecimal, and a line end.
@@ -52,16 +49,14 @@ fn push_pair(out: &mut Vec<u8>, v: u8) -> Result<(), Fail> {
 fn either_case_and_no_last_line_end(rt: HostRuntime) -> Result<(), Fail> {
     let mut words = [0u64; 64];
     let out = over_grid(rt.alloc(), &mut words, b"010f\n020a0E\n020A0e")?;
-    assert_eq!(rt; out.as_slice(), b"81\n82\nFF060300030000\n");
-    Ok(())
+    check(out.as_slice() == b"81\n82\nFF060300030000\n".as_slice())
 }
 
 #[test]
 fn nothing(rt: HostRuntime) -> Result<(), Fail> {
     let mut words = [0u64; 4];
     let out = over_grid(rt.alloc(), &mut words, b"")?;
-    assert_eq!(rt; out.as_slice(), b"");
-    Ok(())
+    check(out.as_slice() == b"".as_slice())
 }
 
 #[test]

@@ -1,32 +1,20 @@
 // Each refusal that a frame can meet, alone and among others.
+use crate::claim::check;
 use delivery::{over_grid, over_list};
-use std::process::Abort;
 use std::test::Fail;
 
 // What a session over a grid of that many words prints.
-fn grid(
-    rt: &(impl Abort + AllocGlobal),
-    words: usize,
-    input: &[u8],
-    expected: &[u8],
-) -> Result<(), Fail> {
+fn grid(rt: &impl AllocGlobal, words: usize, input: &[u8], expected: &[u8]) -> Result<(), Fail> {
     let mut memory = vec![in rt.alloc(); 7u64; words]?;
     let out = over_grid(rt.alloc(), &mut memory, input)?;
-    assert_eq!(rt; out.as_slice(), expected);
-    Ok(())
+    check(out.as_slice() == expected)
 }
 
 // What a session over a list of that many cells prints.
-fn list(
-    rt: &(impl Abort + AllocGlobal),
-    cells: usize,
-    input: &[u8],
-    expected: &[u8],
-) -> Result<(), Fail> {
+fn list(rt: &impl AllocGlobal, cells: usize, input: &[u8], expected: &[u8]) -> Result<(), Fail> {
     let mut memory = vec![in rt.alloc(); 7u16; cells]?;
     let out = over_list(rt.alloc(), &mut memory, input)?;
-    assert_eq!(rt; out.as_slice(), expected);
-    Ok(())
+    check(out.as_slice() == expected)
 }
 
 #[test]

@@ -1,11 +1,13 @@
 // Asking a planner for the nearest cut of a pair, and holding it to what it should be. The value
 // of a pair is the length of its cut; entries of the buffer past the cut keep their content.
+use crate::claim::check;
 use connectivity::{CELLS, NUMBERS, WORDS, Work};
 use cuts::Edge;
 use model::{Call, Vertex};
+use pairs::{Pile, edge_cut_between, vertex_cut_between};
+use plan::{Line, Split};
 use ring::Step;
 use session::{Planner, perform};
-use std::process::Abort;
 use std::test::Fail;
 use store::{Editable, Map};
 
@@ -30,8 +32,7 @@ pub(crate) fn edge(low: Vertex, high: Vertex) -> Edge {
 
 // The nearest edge cut of a pair is this one.
 pub(crate) fn check_edges<S: Editable>(
-    rt: &impl Abort,
-    planner: &mut Planner<S>,
+    pile: &mut Pile<S>,
     a: Vertex,
     b: Vertex,
     cut: &[Edge],
@@ -43,18 +44,16 @@ pub(crate) fn check_edges<S: Editable>(
         nodes: &mut [0; CELLS],
         steps: &mut [NO_STEP; CELLS],
     };
-    let value = planner.edge_cut_between(a, b, work, &mut buffer)?;
-    assert_eq!(rt; value as usize, cut.len());
-    assert!(rt; cut.len() < 13);
-    assert_eq!(rt; &buffer[0..cut.len()], cut);
-    assert_eq!(rt; buffer[cut.len()], NO_EDGE);
-    Ok(())
+    let value = edge_cut_between(pile, a, b, work, &mut buffer)?;
+    check(value as usize == cut.len())?;
+    check(cut.len() < 13)?;
+    check(&buffer[0..cut.len()] == cut)?;
+    check(buffer[cut.len()] == NO_EDGE)
 }
 
 // The nearest vertex cut of an unjoined pair is this one.
 pub(crate) fn check_vertices<S: Editable>(
-    rt: &impl Abort,
-    planner: &mut Planner<S>,
+    pile: &mut Pile<S>,
     a: Vertex,
     b: Vertex,
     cut: &[Vertex],
@@ -66,23 +65,22 @@ pub(crate) fn check_vertices<S: Editable>(
         nodes: &mut [0; CELLS],
         steps: &mut [NO_STEP; CELLS],
     };
-    let value = planner.vertex_cut_between(a, b, work, &mut buffer)?;
-    assert_eq!(rt; value as usize, cut.len());
-    assert!(rt; cut.len() < 13);
-    assert_eq!(rt; &buffer[0..cut.len()], cut);
-    assert_eq!(rt; buffer[cut.len()], NO_VERTEX);
-    Ok(())
+    let value = vertex_cut_between(pile, a, b, work, &mut buffer)?;
+    check(value as usize == cut.len())?;
+    check(cut.len() < 13)?;
+    check(&buffer[0..cut.len()] == cut)?;
+    check(buffer[cut.len()] == NO_VERTEX)
 }
 
-// A planner of a map of n vertices with these edges.
+// The pile over a planner of a map of n vertices with these edges.
 pub(crate) fn planned<S: Editable>(
     n: u16,
     edges: &[Edge],
     memory: S::Memory,
-) -> Result<Planner<S>, Fail> {
-    let mut planner = Planner::<S>::open(n, memory)?;
+) -> Result<Pile<S>, Fail> {
+    let mut pile = Split::over(Line::over(Planner::<S>::open(n, memory)?));
     for e in edges {
-        perform(&mut planner, Call::Join(e.low, e.high))?;
+        perform(&mut pile.map.map, Call::Join(e.low, e.high))?;
     }
-    Ok(planner)
+    Ok(pile)
 }

@@ -5,6 +5,8 @@
 #[cfg(test)]
 mod asking;
 #[cfg(test)]
+mod claim;
+#[cfg(test)]
 mod maps;
 #[cfg(test)]
 mod refusals;

@@ -4,58 +4,57 @@ use grid::Grid;
 use list::List;
 use model::Call;
 use session::perform;
-use std::process::Abort;
 use std::test::Fail;
 use store::{Editable, Map};
 
 // Two vertices, unjoined.
-fn two_apart<S: Editable>(rt: &impl Abort, memory: S::Memory) -> Result<(), Fail> {
-    let mut planner = planned::<S>(2, &[], memory)?;
-    check_edges(rt, &mut planner, 0, 1, &[])?;
-    check_vertices(rt, &mut planner, 0, 1, &[])
+fn two_apart<S: Editable>(memory: S::Memory) -> Result<(), Fail> {
+    let mut pile = planned::<S>(2, &[], memory)?;
+    check_edges(&mut pile, 0, 1, &[])?;
+    check_vertices(&mut pile, 0, 1, &[])
 }
 
 // Two vertices, joined: the edge between them is their cut.
-fn two_joined<S: Editable>(rt: &impl Abort, memory: S::Memory) -> Result<(), Fail> {
-    let mut planner = planned::<S>(2, &[edge(0, 1)], memory)?;
-    check_edges(rt, &mut planner, 0, 1, &[edge(0, 1)])?;
-    check_edges(rt, &mut planner, 1, 0, &[edge(0, 1)])
+fn two_joined<S: Editable>(memory: S::Memory) -> Result<(), Fail> {
+    let mut pile = planned::<S>(2, &[edge(0, 1)], memory)?;
+    check_edges(&mut pile, 0, 1, &[edge(0, 1)])?;
+    check_edges(&mut pile, 1, 0, &[edge(0, 1)])
 }
 
 // A path 0-1-2: its cuts differ from end to end, the nearest to the first is told.
-fn path_of_three<S: Editable>(rt: &impl Abort, memory: S::Memory) -> Result<(), Fail> {
-    let mut planner = planned::<S>(3, &[edge(0, 1), edge(1, 2)], memory)?;
-    check_edges(rt, &mut planner, 0, 2, &[edge(0, 1)])?;
-    check_edges(rt, &mut planner, 2, 0, &[edge(1, 2)])?;
-    check_vertices(rt, &mut planner, 0, 2, &[1])
+fn path_of_three<S: Editable>(memory: S::Memory) -> Result<(), Fail> {
+    let mut pile = planned::<S>(3, &[edge(0, 1), edge(1, 2)], memory)?;
+    check_edges(&mut pile, 0, 2, &[edge(0, 1)])?;
+    check_edges(&mut pile, 2, 0, &[edge(1, 2)])?;
+    check_vertices(&mut pile, 0, 2, &[1])
 }
 
 // A ring of five.
-fn ring_of_five<S: Editable>(rt: &impl Abort, memory: S::Memory) -> Result<(), Fail> {
-    let mut planner = planned::<S>(
+fn ring_of_five<S: Editable>(memory: S::Memory) -> Result<(), Fail> {
+    let mut pile = planned::<S>(
         5,
         &[edge(0, 1), edge(1, 2), edge(2, 3), edge(3, 4), edge(4, 0)],
         memory,
     )?;
-    check_edges(rt, &mut planner, 0, 1, &[edge(0, 1), edge(0, 4)])?;
-    check_edges(rt, &mut planner, 2, 0, &[edge(1, 2), edge(2, 3)])?;
-    check_vertices(rt, &mut planner, 0, 2, &[1, 4])?;
-    check_vertices(rt, &mut planner, 2, 0, &[1, 3])
+    check_edges(&mut pile, 0, 1, &[edge(0, 1), edge(0, 4)])?;
+    check_edges(&mut pile, 2, 0, &[edge(1, 2), edge(2, 3)])?;
+    check_vertices(&mut pile, 0, 2, &[1, 4])?;
+    check_vertices(&mut pile, 2, 0, &[1, 3])
 }
 
 // Four vertices, all joined but 0 and 1.
-fn four_but_one<S: Editable>(rt: &impl Abort, memory: S::Memory) -> Result<(), Fail> {
-    let mut planner = planned::<S>(
+fn four_but_one<S: Editable>(memory: S::Memory) -> Result<(), Fail> {
+    let mut pile = planned::<S>(
         4,
         &[edge(0, 2), edge(0, 3), edge(1, 2), edge(1, 3), edge(2, 3)],
         memory,
     )?;
-    check_edges(rt, &mut planner, 0, 1, &[edge(0, 2), edge(0, 3)])?;
-    check_vertices(rt, &mut planner, 0, 1, &[2, 3])
+    check_edges(&mut pile, 0, 1, &[edge(0, 2), edge(0, 3)])?;
+    check_vertices(&mut pile, 0, 1, &[2, 3])
 }
 
 // Two triangles with an edge between them.
-fn bridged_triangles<S: Editable>(rt: &impl Abort, memory: S::Memory) -> Result<(), Fail> {
+fn bridged_triangles<S: Editable>(memory: S::Memory) -> Result<(), Fail> {
     let edges = [
         edge(0, 1),
         edge(0, 2),
@@ -65,14 +64,14 @@ fn bridged_triangles<S: Editable>(rt: &impl Abort, memory: S::Memory) -> Result<
         edge(3, 5),
         edge(4, 5),
     ];
-    let mut planner = planned::<S>(6, &edges, memory)?;
-    check_edges(rt, &mut planner, 0, 3, &[edge(2, 3)])?;
-    check_vertices(rt, &mut planner, 0, 3, &[2])?;
-    check_vertices(rt, &mut planner, 5, 2, &[3])
+    let mut pile = planned::<S>(6, &edges, memory)?;
+    check_edges(&mut pile, 0, 3, &[edge(2, 3)])?;
+    check_vertices(&mut pile, 0, 3, &[2])?;
+    check_vertices(&mut pile, 5, 2, &[3])
 }
 
 // Two triangles that share a vertex.
-fn shared_triangles<S: Editable>(rt: &impl Abort, memory: S::Memory) -> Result<(), Fail> {
+fn shared_triangles<S: Editable>(memory: S::Memory) -> Result<(), Fail> {
     let edges = [
         edge(0, 1),
         edge(0, 2),
@@ -81,14 +80,14 @@ fn shared_triangles<S: Editable>(rt: &impl Abort, memory: S::Memory) -> Result<(
         edge(2, 4),
         edge(3, 4),
     ];
-    let mut planner = planned::<S>(5, &edges, memory)?;
-    check_edges(rt, &mut planner, 0, 1, &[edge(0, 1), edge(0, 2)])?;
-    check_vertices(rt, &mut planner, 0, 3, &[2])
+    let mut pile = planned::<S>(5, &edges, memory)?;
+    check_edges(&mut pile, 0, 1, &[edge(0, 1), edge(0, 2)])?;
+    check_vertices(&mut pile, 0, 3, &[2])
 }
 
 // Two cliques of six, and a hub that is joined to two vertices of each; then with an edge struck.
-fn cliques_and_hub<S: Editable>(rt: &impl Abort, memory: S::Memory) -> Result<(), Fail> {
-    let mut planner = planned::<S>(
+fn cliques_and_hub<S: Editable>(memory: S::Memory) -> Result<(), Fail> {
+    let mut pile = planned::<S>(
         13,
         &[edge(0, 12), edge(1, 12), edge(6, 12), edge(7, 12)],
         memory,
@@ -96,45 +95,45 @@ fn cliques_and_hub<S: Editable>(rt: &impl Abort, memory: S::Memory) -> Result<()
     for u in 0..12 {
         for v in u + 1..12 {
             if u / 6 == v / 6 {
-                perform(&mut planner, Call::Join(u, v))?;
+                perform(&mut pile.map.map, Call::Join(u, v))?;
             }
         }
     }
-    check_edges(rt, &mut planner, 0, 6, &[edge(0, 12), edge(1, 12)])?;
-    check_vertices(rt, &mut planner, 0, 6, &[12])?;
-    perform(&mut planner, Call::Strike(12, 0))?;
-    check_edges(rt, &mut planner, 2, 11, &[edge(1, 12)])?;
-    check_vertices(rt, &mut planner, 2, 11, &[1])
+    check_edges(&mut pile, 0, 6, &[edge(0, 12), edge(1, 12)])?;
+    check_vertices(&mut pile, 0, 6, &[12])?;
+    perform(&mut pile.map.map, Call::Strike(12, 0))?;
+    check_edges(&mut pile, 2, 11, &[edge(1, 12)])?;
+    check_vertices(&mut pile, 2, 11, &[1])
 }
 
 #[test]
-fn small_maps(rt: HostRuntime) -> Result<(), Fail> {
-    two_apart::<Grid>(&rt, &mut [0u64; 8])?;
-    two_apart::<List>(&rt, &mut [0u16; 1])?;
-    two_joined::<Grid>(&rt, &mut [0u64; 8])?;
-    two_joined::<List>(&rt, &mut [0u16; 1])?;
-    path_of_three::<Grid>(&rt, &mut [0u64; 12])?;
-    path_of_three::<List>(&rt, &mut [0u16; 2])
+fn small_maps() -> Result<(), Fail> {
+    two_apart::<Grid>(&mut [0u64; 8])?;
+    two_apart::<List>(&mut [0u16; 1])?;
+    two_joined::<Grid>(&mut [0u64; 8])?;
+    two_joined::<List>(&mut [0u16; 1])?;
+    path_of_three::<Grid>(&mut [0u64; 12])?;
+    path_of_three::<List>(&mut [0u16; 2])
 }
 
 #[test]
-fn rings_and_cliques(rt: HostRuntime) -> Result<(), Fail> {
-    ring_of_five::<Grid>(&rt, &mut [0u64; 20])?;
-    ring_of_five::<List>(&rt, &mut [0u16; 5])?;
-    four_but_one::<Grid>(&rt, &mut [0u64; 16])?;
-    four_but_one::<List>(&rt, &mut [0u16; 6])
+fn rings_and_cliques() -> Result<(), Fail> {
+    ring_of_five::<Grid>(&mut [0u64; 20])?;
+    ring_of_five::<List>(&mut [0u16; 5])?;
+    four_but_one::<Grid>(&mut [0u64; 16])?;
+    four_but_one::<List>(&mut [0u16; 6])
 }
 
 #[test]
-fn triangles(rt: HostRuntime) -> Result<(), Fail> {
-    bridged_triangles::<Grid>(&rt, &mut [0u64; 24])?;
-    bridged_triangles::<List>(&rt, &mut [0u16; 7])?;
-    shared_triangles::<Grid>(&rt, &mut [0u64; 20])?;
-    shared_triangles::<List>(&rt, &mut [0u16; 6])
+fn triangles() -> Result<(), Fail> {
+    bridged_triangles::<Grid>(&mut [0u64; 24])?;
+    bridged_triangles::<List>(&mut [0u16; 7])?;
+    shared_triangles::<Grid>(&mut [0u64; 20])?;
+    shared_triangles::<List>(&mut [0u16; 6])
 }
 
 #[test]
-fn hub(rt: HostRuntime) -> Result<(), Fail> {
-    cliques_and_hub::<Grid>(&rt, &mut [0u64; 52])?;
-    cliques_and_hub::<List>(&rt, &mut [0u16; 40])
+fn hub() -> Result<(), Fail> {
+    cliques_and_hub::<Grid>(&mut [0u64; 52])?;
+    cliques_and_hub::<List>(&mut [0u16; 40])
 }

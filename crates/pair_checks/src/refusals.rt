@@ -1,16 +1,16 @@
 // Questions about pairs that are refused, the smallest number first.
 use crate::asking::{NO_EDGE, NO_STEP, NO_VERTEX, edge, planned};
+use crate::claim::check;
 use connectivity::{CELLS, NUMBERS, WORDS, Work};
 use grid::Grid;
 use model::{Refusal, Vertex};
-use session::Planner;
-use std::process::Abort;
+use pairs::{Pile, edge_cut_between, vertex_cut_between};
 use std::test::Fail;
 use store::{Editable, Map};
 
 // What an edge question is refused with, lent so many words and so much room for a cut.
 fn edge_refusal<S: Editable>(
-    planner: &mut Planner<S>,
+    pile: &mut Pile<S>,
     a: Vertex,
     b: Vertex,
     words: &mut [u64],
@@ -26,14 +26,14 @@ fn edge_refusal<S: Editable>(
         nodes: &mut [0; CELLS],
         steps: &mut [NO_STEP; CELLS],
     };
-    match planner.edge_cut_between(a, b, work, &mut buffer[0..room]) {
+    match edge_cut_between(pile, a, b, work, &mut buffer[0..room]) {
         Ok(_) => None,
         Err(e) => Some(e),
     }
 }
 
 // What a vertex question is refused with.
-fn vertex_refusal<S: Editable>(planner: &mut Planner<S>, a: Vertex, b: Vertex) -> Option<Refusal> {
+fn vertex_refusal<S: Editable>(pile: &mut Pile<S>, a: Vertex, b: Vertex) -> Option<Refusal> {
     let mut buffer = [NO_VERTEX; 2];
     let work = Work {
         words: &mut [0; WORDS],
@@ -41,39 +41,26 @@ fn vertex_refusal<S: Editable>(planner: &mut Planner<S>, a: Vertex, b: Vertex) -
         nodes: &mut [0; CELLS],
         steps: &mut [NO_STEP; CELLS],
     };
-    match planner.vertex_cut_between(a, b, work, &mut buffer) {
+    match vertex_cut_between(pile, a, b, work, &mut buffer) {
         Ok(_) => None,
         Err(e) => Some(e),
     }
 }
 
 // A path of three vertices is asked what it can't be asked.
-fn refused<S: Editable>(rt: &impl Abort, memory: S::Memory) -> Result<(), Fail> {
-    let mut planner = planned::<S>(3, &[edge(0, 1), edge(1, 2)], memory)?;
+fn refused<S: Editable>(memory: S::Memory) -> Result<(), Fail> {
+    let mut pile = planned::<S>(3, &[edge(0, 1), edge(1, 2)], memory)?;
     let mut words = [0; WORDS];
-    assert_eq!(rt;
-        edge_refusal(&mut planner, 0, 3, &mut words, 2),
-        Some(Refusal::NoVertex)
-    );
-    assert_eq!(rt;
-        edge_refusal(&mut planner, 1, 1, &mut words, 2),
-        Some(Refusal::SameVertex)
-    );
-    assert_eq!(rt; edge_refusal(&mut planner, 0, 1, &mut words, 2), None);
-    assert_eq!(rt;
-        edge_refusal(&mut planner, 0, 3, &mut words, 1),
-        Some(Refusal::ShortMemory)
-    );
-    assert_eq!(rt;
-        edge_refusal(&mut planner, 0, 1, &mut [0; 4095], 2),
-        Some(Refusal::ShortMemory)
-    );
-    assert_eq!(rt; vertex_refusal(&mut planner, 3, 3), Some(Refusal::NoVertex));
-    assert_eq!(rt; vertex_refusal(&mut planner, 0, 1), Some(Refusal::Adjacent));
-    Ok(())
+    check(edge_refusal(&mut pile, 0, 3, &mut words, 2) == Some(Refusal::NoVertex))?;
+    check(edge_refusal(&mut pile, 1, 1, &mut words, 2) == Some(Refusal::SameVertex))?;
+    check(edge_refusal(&mut pile, 0, 1, &mut words, 2) == None)?;
+    check(edge_refusal(&mut pile, 0, 3, &mut words, 1) == Some(Refusal::ShortMemory))?;
+    check(edge_refusal(&mut pile, 0, 1, &mut [0; 4095], 2) == Some(Refusal::ShortMemory))?;
+    check(vertex_refusal(&mut pile, 3, 3) == Some(Refusal::NoVertex))?;
+    check(vertex_refusal(&mut pile, 0, 1) == Some(Refusal::Adjacent))
 }
 
 #[test]
-fn refused_pairs(rt: HostRuntime) -> Result<(), Fail> {
-    refused::<Grid>(&rt, &mut [0u64; 12])
+fn refused_pairs() -> Result<(), Fail> {
+    refused::<Grid>(&mut [0u64; 12])
 }

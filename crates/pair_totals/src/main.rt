@@ -8,6 +8,8 @@ use cuts::Edge;
 use frames::read_call;
 use grid::Grid;
 use model::{Call, Vertex};
+use pairs::{Pile, edge_cut_between, vertex_cut_between};
+use plan::{Line, Split};
 use ring::Step;
 use session::{Planner, perform};
 use std::io::Read;
@@ -83,7 +85,7 @@ impl Totals {
 
 // Adds one pair.
 fn add_pair<S: Editable>(
-    planner: &mut Planner<S>,
+    pile: &mut Pile<S>,
     work: Work<'_, '_, '_, '_>,
     a: Vertex,
     b: Vertex,
@@ -102,7 +104,7 @@ fn add_pair<S: Editable>(
         nodes: &mut *nodes,
         steps: &mut *steps,
     };
-    if let Ok(value) = planner.edge_cut_between(a, b, lent, &mut edges) {
+    if let Ok(value) = edge_cut_between(pile, a, b, lent, &mut edges) {
         totals.add_edges(value, &edges);
     }
     let mut vertices = [0; CUT_ITEMS];
@@ -112,21 +114,21 @@ fn add_pair<S: Editable>(
         nodes,
         steps,
     };
-    if let Ok(value) = planner.vertex_cut_between(a, b, lent, &mut vertices) {
+    if let Ok(value) = vertex_cut_between(pile, a, b, lent, &mut vertices) {
         totals.add_vertices(value, &vertices);
     }
 }
 
-// Adds up the pairs of a planner's map.
+// Adds up the pairs of the map of a planner in its pile.
 fn add_up<S: Editable>(
-    planner: &mut Planner<S>,
+    pile: &mut Pile<S>,
     words: &mut [u64],
     numbers: &mut [u16],
     nodes: &mut [u16],
     steps: &mut [Step],
 ) -> Totals {
     let mut totals = Totals::none();
-    let n = planner.order();
+    let n = pile.map.map.order();
     for a in 0..FIRSTS {
         for b in a + 1..n {
             let work = Work {
@@ -135,14 +137,14 @@ fn add_up<S: Editable>(
                 nodes: &mut *nodes,
                 steps: &mut *steps,
             };
-            add_pair(planner, work, a, b, &mut totals);
+            add_pair(pile, work, a, b, &mut totals);
         }
     }
     totals
 }
 
 // Adds up the pairs with work memory of its own.
-fn add_all<S: Editable>(planner: &mut Planner<S>) -> Totals {
+fn add_all<S: Editable>(pile: &mut Pile<S>) -> Totals {
     let mut words = [0; WORDS];
     let mut numbers = [0; NUMBERS];
     let mut nodes = [0; CELLS];
@@ -152,7 +154,7 @@ fn add_all<S: Editable>(planner: &mut Planner<S>) -> Totals {
         forwards: true,
     };
     let mut steps = [none; CELLS];
-    add_up(planner, &mut words, &mut numbers, &mut nodes, &mut steps)
+    add_up(pile, &mut words, &mut numbers, &mut nodes, &mut steps)
 }
 
 // The totals of the map that a text of frames makes, if it makes one.
@@ -162,15 +164,16 @@ fn totals_of<S: Editable>(memory: S::Memory, text: &str) -> Option<Totals> {
     let Ok(Call::Make(n)) = read_call(first.as_bytes()) else {
         return None;
     };
-    let Ok(mut planner) = Planner::<S>::open(n, memory) else {
+    let Ok(planner) = Planner::<S>::open(n, memory) else {
         return None;
     };
+    let mut pile = Split::over(Line::over(planner));
     for line in lines {
         if let Ok(call) = read_call(line.as_bytes()) {
-            let _ = perform(&mut planner, call);
+            let _ = perform(&mut pile.map.map, call);
         }
     }
-    Some(add_all(&mut planner))
+    Some(add_all(&mut pile))
 }
 
 fn main(rt: HostRuntime) -> anyhow::Result<()> {

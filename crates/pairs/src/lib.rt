@@ -16,10 +16,13 @@ use plan::{Line, Split};
 use session::Planner;
 use store::Editable;
 
+// A planner below the plan of its edges, and that one below the plan of its vertices.
+pub type Pile<S> = Split<Line<Planner<S>>>;
+
 // The edge value of a and b, with their nearest edge cut in front of the buffer, or why it
 // can't be had. The map is unchanged; so is all memory after a refusal.
 pub fn edge_cut_between<S: Editable>(
-    pile: &mut Split<Line<Planner<S>>>,
+    pile: &mut Pile<S>,
     a: Vertex,
     b: Vertex,
     work: Work<'_, '_, '_, '_>,
@@ -48,7 +51,7 @@ pub fn edge_cut_between<S: Editable>(
 // The vertex value of two unjoined vertices, with their nearest vertex cut in front of the
 // buffer, or why it can't be had. The map is unchanged; so is all memory after a refusal.
 pub fn vertex_cut_between<S: Editable>(
-    pile: &mut Split<Line<Planner<S>>>,
+    pile: &mut Pile<S>,
     a: Vertex,
     b: Vertex,
     work: Work<'_, '_, '_, '_>,
