@@ -3,7 +3,8 @@
 
   tools/reference.py grid|list < frames        prints the answers
   tools/reference.py compare [ROUNDS]          runs random inputs through this and through
-                                               target/bin/planner_grid and planner_list
+                                               the programs planner_grid and planner_list, which
+                                               `rt run` has built in their folders
 """
 import random
 import subprocess
@@ -120,7 +121,7 @@ def compare(rounds):
     for seed in range(rounds):
         data = random_input(random.Random(seed))
         for store in ("grid", "list"):
-            run = subprocess.run(["target/bin/planner_" + store], input=data, capture_output=True)
+            run = subprocess.run([f"crates/planner_{store}/out/planner_{store}"], input=data, capture_output=True)
             if run.returncode or run.stdout.decode() != answers(store, data):
                 print(f"seed {seed}, {store}: differs")
                 return 1
