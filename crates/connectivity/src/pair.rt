@@ -9,7 +9,7 @@ use crate::run::{RunCount, complete};
 use crate::work::{Sizes, WORDS, Work};
 use cuts::Edge;
 use model::{Refusal, Vertex};
-use plan::{Line, Plan, Split};
+use plan::{CutPlan, Line, Split};
 use store::Map;
 
 // Refuses a and b unless enough memory is lent and they are two vertices.
@@ -43,19 +43,19 @@ fn check_loose<M: Map>(map: &mut M, sizes: Sizes, a: Vertex, b: Vertex) -> Resul
 }
 
 // Runs from a to b over any plan: their value, with the nearest cut in front of the buffer.
-fn settle<P: Plan>(
+fn settle<P: CutPlan>(
     plan: &mut P,
     a: u16,
     b: u16,
     work: Work<'_, '_, '_, '_>,
     cut: &mut [P::Item],
 ) -> u16
-    requires asked { P.Plan.asked plan.old a b }
+    requires asked { P.CutPlan.asked plan.old a b }
     requires steps { Enough (length work.words.now) (length work.numbers.now) (length work.steps.now) }
     requires nodes { Enough (length work.words.now) (length work.numbers.now) (length work.nodes.now) }
-    requires room { length (P.Plan.nearest plan.old a b) ≤ length cut.old }
-    ensures value { result ≡ P.Plan.valued plan.old a b }
-    ensures items { cut.new ≡ in_front (P.Plan.nearest plan.old a b) cut.old }
+    requires room { length (P.CutPlan.nearest plan.old a b) ≤ length cut.old }
+    ensures value { result ≡ P.CutPlan.valued plan.old a b }
+    ensures items { cut.new ≡ in_front (P.CutPlan.nearest plan.old a b) cut.old }
     ensures same { plan.new ≡ plan.old }
 {
     let Work {

@@ -12,7 +12,7 @@ ghost use Rattle.plan.specs.Buffers.{in_front};
 ghost use Rattle.connectivity.specs.Runs.{Held, Largest, PushedOn, EndedAt};
 
 use augment::{augment, trace};
-use plan::Plan;
+use plan::CutPlan;
 use ring::Step;
 use rows::flow::wipe;
 use search::search;
@@ -78,14 +78,14 @@ impl Searching {
     }
 
     // Seeks a residual path from end to end, and notes it at its nodes if there is one.
-    fn seek<P: Plan>(
+    fn seek<P: CutPlan>(
         &self,
         plan: &mut P,
         words: &[u64],
         numbers: &mut [u16],
         steps: &mut [Step],
     ) -> bool
-        requires asked { P.Plan.asked plan.old self.now.from self.now.to }
+        requires asked { P.CutPlan.asked plan.old self.now.from self.now.to }
         requires memory { Enough (length words.now) (length numbers.old) (length steps.old) }
         ensures same { plan.new ≡ plan.old }
         ensures noted { result ≡ true → Trail (residual (P.Plan.digraph plan.old) (carried words.now)) self.now.from self.now.to numbers.new }
@@ -104,14 +104,14 @@ impl Searching {
     }
 
     // Seeks a residual path and, if there is one, pushes a unit along it.
-    fn advance<P: Plan>(
+    fn advance<P: CutPlan>(
         &self,
         plan: &mut P,
         words: &mut [u64],
         numbers: &mut [u16],
         steps: &mut [Step],
     ) -> bool
-        requires asked { P.Plan.asked plan.old self.now.from self.now.to }
+        requires asked { P.CutPlan.asked plan.old self.now.from self.now.to }
         requires flow { Held (P.Plan.digraph plan.old) self.now words.old }
         requires memory { Enough (length words.old) (length numbers.old) (length steps.old) }
         ensures same { plan.new ≡ plan.old }
@@ -129,19 +129,19 @@ impl Searching {
     }
 
     // Adds one path, or finds none and gives the finished run.
-    pub(crate) fn push<P: Plan>(
+    pub(crate) fn push<P: CutPlan>(
         self,
         plan: &mut P,
         words: &mut [u64],
         numbers: &mut [u16],
         steps: &mut [Step],
     ) -> Pushed
-        requires asked { P.Plan.asked plan.old self.from self.to }
+        requires asked { P.CutPlan.asked plan.old self.from self.to }
         requires flow { Held (P.Plan.digraph plan.old) self words.old }
         requires memory { Enough (length words.old) (length numbers.old) (length steps.old) }
         ensures same { plan.new ≡ plan.old }
         ensures after { PushedOn (P.Plan.digraph plan.old) self result words.new }
-        ensures value { EndedAt (P.Plan.valued plan.old self.from self.to) result }
+        ensures value { EndedAt (P.CutPlan.valued plan.old self.from self.to) result }
     {
         let found = self.advance(plan, words, numbers, steps);
         let Searching { from, to, value } = self;
@@ -171,7 +171,7 @@ impl Finished {
     }
 
     // Marks what the first end reaches by residual steps.
-    fn mark_side<P: Plan>(
+    fn mark_side<P: CutPlan>(
         &self,
         plan: &mut P,
         words: &[u64],
@@ -179,7 +179,7 @@ impl Finished {
         numbers: &mut [u16],
         nodes: &mut [u16],
     )
-        requires asked { P.Plan.asked plan.old self.now.from self.now.to }
+        requires asked { P.CutPlan.asked plan.old self.now.from self.now.to }
         requires memory { (Enough (length words.now) (length numbers.old) (length nodes.old)) × (7 ≤ length marks.old) }
         ensures same { plan.new ≡ plan.old }
         ensures side { (q : ℕ) → marked marks.new q ≡ residual_side (P.Plan.digraph plan.old) (carried words.now) self.now.from q }
@@ -188,7 +188,7 @@ impl Finished {
     }
 
     // Marks the side of the nearest cut: the arcs that leave it are the cut.
-    fn sweep<P: Plan>(
+    fn sweep<P: CutPlan>(
         &self,
         plan: &mut P,
         words: &[u64],
@@ -196,18 +196,18 @@ impl Finished {
         numbers: &mut [u16],
         nodes: &mut [u16],
     )
-        requires asked { P.Plan.asked plan.old self.now.from self.now.to }
+        requires asked { P.CutPlan.asked plan.old self.now.from self.now.to }
         requires largest { Largest (P.Plan.digraph plan.old) self.now words.now }
         requires memory { (Enough (length words.now) (length numbers.old) (length nodes.old)) × (7 ≤ length marks.old) }
         ensures same { plan.new ≡ plan.old }
-        ensures side { P.Plan.crossing plan.old self.now.from (marked marks.new) ≡ P.Plan.nearest plan.old self.now.from self.now.to }
+        ensures side { P.CutPlan.crossing plan.old self.now.from (marked marks.new) ≡ P.CutPlan.nearest plan.old self.now.from self.now.to }
     {
         self.mark_side(plan, words, marks, numbers, nodes);
     }
 
     // Writes the smallest cut that is nearest to the first end, and says how many items it has.
     // Entries past them keep their content.
-    pub(crate) fn write_cut<P: Plan>(
+    pub(crate) fn write_cut<P: CutPlan>(
         &self,
         plan: &mut P,
         words: &[u64],
@@ -215,13 +215,13 @@ impl Finished {
         nodes: &mut [u16],
         cut: &mut [P::Item],
     ) -> usize
-        requires asked { P.Plan.asked plan.old self.now.from self.now.to }
+        requires asked { P.CutPlan.asked plan.old self.now.from self.now.to }
         requires largest { Largest (P.Plan.digraph plan.old) self.now words.now }
         requires memory { Enough (length words.now) (length numbers.old) (length nodes.old) }
-        requires room { length (P.Plan.nearest plan.old self.now.from self.now.to) ≤ length cut.old }
+        requires room { length (P.CutPlan.nearest plan.old self.now.from self.now.to) ≤ length cut.old }
         ensures same { plan.new ≡ plan.old }
-        ensures count { result ≡ length (P.Plan.nearest plan.old self.now.from self.now.to) }
-        ensures items { cut.new ≡ in_front (P.Plan.nearest plan.old self.now.from self.now.to) cut.old }
+        ensures count { result ≡ length (P.CutPlan.nearest plan.old self.now.from self.now.to) }
+        ensures items { cut.new ≡ in_front (P.CutPlan.nearest plan.old self.now.from self.now.to) cut.old }
     {
         let mut marks = [0; MARK_WORDS];
         self.sweep(plan, words, &mut marks, numbers, nodes);
@@ -230,7 +230,7 @@ impl Finished {
 }
 
 // Begins a run from one node to another, and pushes until it is finished.
-pub(crate) fn complete<P: Plan>(
+pub(crate) fn complete<P: CutPlan>(
     count: &mut RunCount,
     plan: &mut P,
     words: &mut [u64],
@@ -240,11 +240,11 @@ pub(crate) fn complete<P: Plan>(
     to: u16,
 ) -> Finished
     requires count { count.old.begun + 1 < 4294967296 }
-    requires asked { P.Plan.asked plan.old from to }
+    requires asked { P.CutPlan.asked plan.old from to }
     requires memory { Enough (length words.old) (length numbers.old) (length steps.old) }
     ensures counted { count.new.begun ≡ count.old.begun + 1 }
     ensures same { plan.new ≡ plan.old }
-    ensures run { result ≡ record { from = from; to = to; value = P.Plan.valued plan.old from to } }
+    ensures run { result ≡ record { from = from; to = to; value = P.CutPlan.valued plan.old from to } }
     ensures largest { Largest (P.Plan.digraph plan.old) result words.new }
 {
     let mut run = Searching::begin(count, words, from, to);

@@ -30,26 +30,6 @@ pub trait Plan {
 
     ghost small: { (p : Self) → (digraph p).nodes ≤ node_limit };
 
-    // The pairs whose value and cut a flow tells: two different nodes, and what else a plan asks.
-    ghost asked: { Self → ℕ → ℕ → Type 0 };
-
-    ghost two: { (p : Self) (a b : ℕ) → asked p a b → (a < (digraph p).nodes) × (b < (digraph p).nodes) × (a ≢ b) };
-
-    // The value of such a pair, and the smallest cut that is nearest to its first node. Both are
-    // defined by taking items away, and not by flows.
-    ghost valued: { Self → ℕ → ℕ → ℕ };
-
-    ghost nearest: { Self → ℕ → ℕ → List Self.Item };
-
-    ghost counted: { (p : Self) (a b : ℕ) → asked p a b → length (nearest p a b) ≡ valued p a b };
-
-    // The items at which arcs leave a set of nodes that has a.
-    ghost crossing: { Self → ℕ → (ℕ → Bool) → List Self.Item };
-
-    // A flow that no residual path leads on from has the pair's value, and the nearest cut is
-    // where arcs leave its residual side.
-    ghost told: { (p : Self) (a b : ℕ) (f : ℕ → ℕ → Bool) (v : ℕ) → asked p a b → Flow (digraph p) a b f v → residual_side (digraph p) f a b ≡ false → (valued p a b ≡ v) × (nearest p a b ≡ crossing p a (residual_side (digraph p) f a)) };
-
     // The number of nodes.
     fn node_count(&mut self) -> u16
         ensures value { result ≡ (digraph self.old).nodes }
@@ -64,6 +44,24 @@ pub trait Plan {
     fn next_arc(&mut self, p: u16, w: u16) -> Option<u16>
         ensures value { result ≡ next_arc (digraph self.old) p w }
         ensures same { self.new ≡ self.old };
+}
+
+// A plan that tells its cuts: the value and the nearest cut of a pair of nodes, by definition, and
+// that a largest flow shows them.
+pub trait CutPlan: Plan {
+    // The pairs whose value and cut a flow tells: two different nodes, and what else a plan asks.
+    ghost asked: { Self → ℕ → ℕ → Type 0 };
+
+    // The value of such a pair, and the smallest cut that is nearest to its first node. Both are
+    // defined by taking items away, and not by flows.
+    ghost valued: { Self → ℕ → ℕ → ℕ };
+
+    ghost nearest: { Self → ℕ → ℕ → List Self.Item };
+
+    ghost counted: { (p : Self) (a b : ℕ) → asked p a b → length (nearest p a b) ≡ valued p a b };
+
+    // The items at which arcs leave a set of nodes that has a.
+    ghost crossing: { Self → ℕ → (ℕ → Bool) → List Self.Item };
 
     // Writes the items at which arcs leave the marked nodes, a set that has `from`, and says how
     // many they are. Entries past them keep their content.
@@ -72,4 +70,11 @@ pub trait Plan {
         ensures count { result ≡ length (crossing self.old from (marked marks.now)) }
         ensures items { cut.new ≡ in_front (crossing self.old from (marked marks.now)) cut.old }
         ensures same { self.new ≡ self.old };
+
+    // A pair that is asked for is two different nodes.
+    ghost two: { (p : Self) (a b : ℕ) → asked p a b → (a < (Self.digraph p).nodes) × (b < (Self.digraph p).nodes) × (a ≢ b) };
+
+    // A flow that no residual path leads on from has the pair's value, and the nearest cut is
+    // where arcs leave its residual side.
+    ghost told: { (p : Self) (a b : ℕ) (f : ℕ → ℕ → Bool) (v : ℕ) → asked p a b → Flow (Self.digraph p) a b f v → residual_side (Self.digraph p) f a b ≡ false → (valued p a b ≡ v) × (nearest p a b ≡ crossing p a (residual_side (Self.digraph p) f a)) };
 }

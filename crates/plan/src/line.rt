@@ -8,8 +8,8 @@ ghost use Rattle.plan.specs.Tells.{edge_two, edge_counted, edge_told};
 ghost use Rattle.plan.specs.Writing.{placed, edge_at, next_other, crossing_row};
 ghost use Rattle.rows.specs.Marks.{marked};
 
-use crate::Plan;
 use crate::buffer::keep;
+use crate::{CutPlan, Plan};
 use cuts::Edge;
 use model::Vertex;
 use rows::marks::{is_marked, next_marked, next_unmarked};
@@ -113,20 +113,6 @@ impl<M: Map> Plan for Line<M> {
 
     ghost small = { λ s. both_ways_small (M.Map.graph s.map) (M.Map.simple s.map) };
 
-    ghost asked = { λ s a b. Two (M.Map.graph s.map) a b };
-
-    ghost two = { λ s. edge_two (M.Map.graph s.map) };
-
-    ghost valued = { λ s a b. edge_value (M.Map.graph s.map) a b };
-
-    ghost nearest = { λ s a b. nearest_edge_cut (M.Map.graph s.map) a b };
-
-    ghost counted = { λ s. edge_counted (M.Map.graph s.map) (M.Map.simple s.map) };
-
-    ghost crossing = { λ s a u. crossing_edges (M.Map.graph s.map) u };
-
-    ghost told = { λ s. edge_told (M.Map.graph s.map) (M.Map.simple s.map) };
-
     // The number of vertices.
     fn node_count(&mut self) -> u16 {
         self.map.order()
@@ -141,6 +127,23 @@ impl<M: Map> Plan for Line<M> {
     fn next_arc(&mut self, p: u16, w: u16) -> Option<u16> {
         self.map.next(p, w)
     }
+}
+
+// Its cuts are sets of edges.
+impl<M: Map> CutPlan for Line<M> {
+    ghost asked = { λ s a b. Two (M.Map.graph s.map) a b };
+
+    ghost two = { λ s. edge_two (M.Map.graph s.map) };
+
+    ghost valued = { λ s a b. edge_value (M.Map.graph s.map) a b };
+
+    ghost nearest = { λ s a b. nearest_edge_cut (M.Map.graph s.map) a b };
+
+    ghost counted = { λ s. edge_counted (M.Map.graph s.map) (M.Map.simple s.map) };
+
+    ghost crossing = { λ s a u. crossing_edges (M.Map.graph s.map) u };
+
+    ghost told = { λ s. edge_told (M.Map.graph s.map) (M.Map.simple s.map) };
 
     // Writes the edges that have one end marked, by their lower and then by their higher end.
     fn write_cut(&mut self, _from: u16, marks: &[u64], cut: &mut [Edge]) -> usize {

@@ -11,8 +11,8 @@ ghost use Rattle.plan.specs.Tells.{Ends, vertex_two, vertex_counted, vertex_told
 ghost use Rattle.plan.specs.Writing.{vertex_at};
 ghost use Rattle.rows.specs.Marks.{marked};
 
-use crate::Plan;
 use crate::buffer::keep;
+use crate::{CutPlan, Plan};
 use model::Vertex;
 use rows::marks::is_marked;
 use store::Map;
@@ -102,20 +102,6 @@ impl<M: Map> Plan for Split<M> {
 
     ghost small = { λ s. split_small (M.Map.graph s.map) s.a s.b (M.Map.simple s.map) };
 
-    ghost asked = { λ s a b. Ends (M.Map.graph s.map) s.a s.b a b };
-
-    ghost two = { λ s. vertex_two (M.Map.graph s.map) s.a s.b };
-
-    ghost valued = { λ s a b. vertex_value (M.Map.graph s.map) a b };
-
-    ghost nearest = { λ s a b. nearest_vertex_cut (M.Map.graph s.map) a b };
-
-    ghost counted = { λ s. vertex_counted (M.Map.graph s.map) (M.Map.simple s.map) s.a s.b };
-
-    ghost crossing = { λ s a u. crossing_vertices (M.Map.graph s.map) a u };
-
-    ghost told = { λ s. vertex_told (M.Map.graph s.map) (M.Map.simple s.map) s.a s.b };
-
     // Two nodes for each vertex: the exit of an end is a node without arcs.
     fn node_count(&mut self) -> u16 {
         let n = self.map.order();
@@ -139,6 +125,23 @@ impl<M: Map> Plan for Split<M> {
             None => exit_from(n, p, w),
         }
     }
+}
+
+// Its cuts are sets of vertices.
+impl<M: Map> CutPlan for Split<M> {
+    ghost asked = { λ s a b. Ends (M.Map.graph s.map) s.a s.b a b };
+
+    ghost two = { λ s. vertex_two (M.Map.graph s.map) s.a s.b };
+
+    ghost valued = { λ s a b. vertex_value (M.Map.graph s.map) a b };
+
+    ghost nearest = { λ s a b. nearest_vertex_cut (M.Map.graph s.map) a b };
+
+    ghost counted = { λ s. vertex_counted (M.Map.graph s.map) (M.Map.simple s.map) s.a s.b };
+
+    ghost crossing = { λ s a u. crossing_vertices (M.Map.graph s.map) a u };
+
+    ghost told = { λ s. vertex_told (M.Map.graph s.map) (M.Map.simple s.map) s.a s.b };
 
     // Writes the vertices at which arcs leave the marked nodes, in ascending order.
     fn write_cut(&mut self, from: u16, marks: &[u64], cut: &mut [Vertex]) -> usize {

@@ -13,8 +13,8 @@ returns g c =
     let d = g.P.Plan.digraph p in
     let f = carried c.args.words.now in
     let side : marked c.mark_side.new.marks ≡ residual_side d f run.from = fun_ext c.mark_side.ensures.side in
-    let told = g.P.Plan.told p run.from run.to f run.value c.requires.asked c.requires.largest.flow c.requires.largest.stuck in
+    let told = g.met.P.CutPlan.told p run.from run.to f run.value c.requires.asked c.requires.largest.flow c.requires.largest.stuck in
     record {
       same = c.mark_side.ensures.same;
-      side = ap (g.P.Plan.crossing p run.from) side ∙ sym told.1;
+      side = ap (g.P.CutPlan.crossing p run.from) side ∙ sym told.1;
     }

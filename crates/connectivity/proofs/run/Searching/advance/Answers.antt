@@ -11,7 +11,7 @@ pub augment-requires : goal.augment-requires
 augment-requires g c =
     let p = c.args.plan.now in
     let run = c.args.self.now in
-    let ends = g.P.Plan.two p run.from run.to c.requires.asked in
+    let ends = g.met.P.CutPlan.two p run.from run.to c.requires.asked in
     let nodes = read_nodes (g.P.Plan.digraph p) run.from run.to (carried c.args.words.now) run.value (g.P.Plan.small p) (g.P.Plan.sound p)
     c.requires.flow ends.0 c.seek.new.numbers (c.if-not-seek.ensures.noted refl) in
     record {
@@ -25,7 +25,7 @@ pub returns : goal.returns
 returns g c =
     let p = c.args.plan.now in
     let run = c.args.self.now in
-    let ends = g.P.Plan.two p run.from run.to c.requires.asked in
+    let ends = g.met.P.CutPlan.two p run.from run.to c.requires.asked in
     let f = carried c.args.words.now in
     let adds = read_adds (g.P.Plan.digraph p) run.from run.to f run.value (g.P.Plan.small p) (g.P.Plan.sound p)
     c.requires.flow ends.0 c.seek.new.numbers (c.if-not-seek.ensures.noted refl) ends.2 in

@@ -19,7 +19,7 @@ returns-else-found g c =
     let run = c.args.self in
     let d = g.P.Plan.digraph p in
     let e = c.if-found.ensures in
-    let told = g.P.Plan.told p run.from run.to (carried c.args.words.now) run.value c.requires.asked c.requires.flow (e.stuck refl) in
+    let told = g.met.P.CutPlan.told p run.from run.to (carried c.args.words.now) run.value c.requires.asked c.requires.flow (e.stuck refl) in
     let largest : Largest d (record { from = run.from; to = run.to; value = run.value }) c.args.words.now = record { flow = c.requires.flow; stuck = e.stuck refl } in
     record {
       same = c.advance-found.ensures.same;

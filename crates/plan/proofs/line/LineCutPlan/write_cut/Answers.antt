@@ -5,7 +5,7 @@ use Rattle.plan.specs.declared.line.Line.{Line}
 use Rattle.plan.specs.Writing.{crossing_row}
 use Rattle.plan.proofs.Cuts.{edges_fit, edges_all}
 use Rattle.plan.proofs.Placing.{gathered_none, written_none, written_room, written_more, written_front}
-use Rattle.plan.proofs.line.LinePlan.write_cut.Goals as goal
+use Rattle.plan.proofs.line.LineCutPlan.write_cut.Goals as goal
 
 pub loop-u-init : goal.loop-u-init
 loop-u-init g c = (refl, written_none c.args.cut.now 0 _ (gathered_none _ 0 (λ i l. absurd (omega arith))))

@@ -5,7 +5,7 @@ use Rattle.plan.specs.declared.split.Split.{Split}
 use Rattle.plan.specs.Writing.{listed}
 use Rattle.plan.proofs.Cuts.{vertices_at, vertex_listed, vertices_fit, vertices_all}
 use Rattle.plan.proofs.Placing.{gathered_none, written_none, written_room, written_more, written_front}
-use Rattle.plan.proofs.split.SplitPlan.write_cut.Goals as goal
+use Rattle.plan.proofs.split.SplitCutPlan.write_cut.Goals as goal
 
 pub loop-v-init : goal.loop-v-init
 loop-v-init g c = (refl, written_none c.args.cut.now 0 _ (gathered_none _ 0 (λ i l. absurd (omega arith))))

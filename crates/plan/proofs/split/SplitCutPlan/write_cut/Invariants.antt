@@ -3,7 +3,7 @@ use Rattle.std.proofs.Common.{◌≡◌}
 use Rattle.rows.specs.Marks.{marked}
 use Rattle.plan.proofs.Cuts.{vertices_at}
 use Rattle.plan.proofs.Placing.{gathered, Written}
-use Rattle.plan.proofs.split.SplitPlan.write_cut.Given as goal
+use Rattle.plan.proofs.split.SplitCutPlan.write_cut.Given as goal
 
 abbrev pub invariant-loop-v : goal.invariant-loop-v
 invariant-loop-v g l =

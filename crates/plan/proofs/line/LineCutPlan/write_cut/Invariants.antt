@@ -3,7 +3,7 @@ use Rattle.std.proofs.Common.{◌≡◌}
 use Rattle.rows.specs.Marks.{marked}
 use Rattle.plan.specs.Writing.{crossing_row}
 use Rattle.plan.proofs.Placing.{gathered, Written}
-use Rattle.plan.proofs.line.LinePlan.write_cut.Given as goal
+use Rattle.plan.proofs.line.LineCutPlan.write_cut.Given as goal
 
 abbrev pub invariant-loop-u : goal.invariant-loop-u
 invariant-loop-u g l =
