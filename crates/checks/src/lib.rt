@@ -2,8 +2,6 @@
 #![tactic(auto)]
 
 #[cfg(test)]
-mod claim;
-#[cfg(test)]
 mod library;
 #[cfg(test)]
 mod limits;

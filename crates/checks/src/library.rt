@@ -1,5 +1,5 @@
 // The planner as a library: calls by value, and questions about the graph in force.
-use crate::claim::check;
+use claims::check;
 use grid::Grid;
 use list::List;
 use model::{Answer, Call};

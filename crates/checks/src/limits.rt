@@ -1,5 +1,5 @@
 // Limits of the format: orders, strikes, letters, line ends, and long inputs.
-use crate::claim::check;
+use claims::check;
 use delivery::{over_grid, over_list};
 use std::test::Fail;
 

@@ -1,5 +1,5 @@
 // Each refusal that a frame can meet, alone and among others.
-use crate::claim::check;
+use claims::check;
 use delivery::{over_grid, over_list};
 use std::test::Fail;
 

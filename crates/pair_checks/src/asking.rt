@@ -1,6 +1,6 @@
 // Asking a planner for the nearest cut of a pair, and holding it to what it should be. The value
 // of a pair is the length of its cut; entries of the buffer past the cut keep their content.
-use crate::claim::check;
+use claims::check;
 use connectivity::{CELLS, NUMBERS, WORDS, Work};
 use cuts::Edge;
 use model::{Call, Vertex};

@@ -5,8 +5,6 @@
 #[cfg(test)]
 mod asking;
 #[cfg(test)]
-mod claim;
-#[cfg(test)]
 mod maps;
 #[cfg(test)]
 mod refusals;

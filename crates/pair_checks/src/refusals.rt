@@ -1,6 +1,6 @@
 // Questions about pairs that are refused, the smallest number first.
 use crate::asking::{NO_EDGE, NO_STEP, NO_VERTEX, edge, planned};
-use crate::claim::check;
+use claims::check;
 use connectivity::{CELLS, NUMBERS, WORDS, Work};
 use grid::Grid;
 use model::{Refusal, Vertex};

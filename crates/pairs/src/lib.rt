@@ -49,7 +49,8 @@ pub fn edge_cut_between<S: Editable>(
 }
 
 // The vertex value of two unjoined vertices, with their nearest vertex cut in front of the
-// buffer, or why it can't be had. The map is unchanged; so is all memory after a refusal.
+// buffer, or why it can't be had. Only the ends of the split change, and after a refusal nothing
+// does, the work memory included.
 pub fn vertex_cut_between<S: Editable>(
     pile: &mut Pile<S>,
     a: Vertex,
@@ -59,7 +60,7 @@ pub fn vertex_cut_between<S: Editable>(
 ) -> Result<u16, Refusal>
     ensures reply { result ≡ vertex_reply (sizes_of work.entry.words.now work.entry.numbers.now work.entry.nodes.now work.entry.steps.now cut.old) (in_force (model_of S.Map.graph S.Editable.most pile.old.map.map)) a b }
     ensures cut { cut.new ≡ cut_in result (nearest_vertex_cut (in_force (model_of S.Map.graph S.Editable.most pile.old.map.map)) a b) cut.old }
-    ensures map { model_of S.Map.graph S.Editable.most pile.new.map.map ≡ model_of S.Map.graph S.Editable.most pile.old.map.map }
+    ensures map { pile.new.map ≡ pile.old.map }
     ensures same { is_ok result ≡ false → pile.new ≡ pile.old }
     ensures unchanged { is_ok result ≡ false → (work.exit.0.now ≡ work.entry.words.now) × (work.exit.1.0.now ≡ work.entry.numbers.now) × (work.exit.1.1.0.now ≡ work.entry.nodes.now) × (work.exit.1.1.1.0.now ≡ work.entry.steps.now) }
 {
