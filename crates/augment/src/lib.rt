@@ -2,8 +2,8 @@
 // noted on the way, and one unit more is pushed along it.
 #![tactic(auto)]
 
-mod back;
+mod notes;
 mod push;
 
-pub use back::{read_back, trace};
+pub use notes::{Notes, read_back};
 pub use push::augment;

@@ -6,4 +6,6 @@ mod library;
 #[cfg(test)]
 mod limits;
 #[cfg(test)]
+mod prints;
+#[cfg(test)]
 mod refusals;

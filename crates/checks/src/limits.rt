@@ -1,21 +1,22 @@
 // Limits of the format: orders, strikes, letters, line ends, and long inputs.
+use crate::prints::prints;
 use claims::check;
 use delivery::{over_grid, over_list};
 use std::test::Fail;
 
 // Whether an input of that many digits over a grid is answered so.
 fn long_input(rt: &impl AllocGlobal, digits: usize, expected: &[u8]) -> Result<(), Fail> {
-    let input = vec![in rt.alloc(); 48u8; digits]?;
-    let mut words = [0u64; 4];
-    let out = over_grid(rt.alloc(), &mut words, &input)?;
-    check(out.as_slice() == expected)
+    let input = vec![in rt.alloc(); b'0'; digits]?;
+    prints(over_grid(rt.alloc(), &mut [0u64; 4], &input), expected)
 }
 
 #[test]
 fn two_hundred(rt: HostRuntime) -> Result<(), Fail> {
     let mut words = vec![in rt.alloc(); 0u64; 804]?;
-    let out = over_grid(rt.alloc(), &mut words, b"01C9\n01C8\n02C7C6\n02C8C7\n")?;
-    check(out.as_slice() == b"FF010300010000\n81\n82\nFF030300040000\n".as_slice())
+    prints(
+        over_grid(rt.alloc(), &mut words, b"01C9\n01C8\n02C7C6\n02C8C7\n"),
+        b"FF010300010000\n81\n82\nFF030300040000\n",
+    )
 }
 
 #[test]
@@ -41,22 +42,21 @@ fn push_pair(out: &mut Vec<u8>, v: u8) -> Result<(), Fail> {
     out.extend_from_slice(b"00")?;
     out.push(digits[v as usize / 16])?;
     out.push(digits[v as usize % 16])?;
-    out.push(10)?;
+    out.push(b'\n')?;
     Ok(())
 }
 
 #[test]
 fn either_case_and_no_last_line_end(rt: HostRuntime) -> Result<(), Fail> {
-    let mut words = [0u64; 64];
-    let out = over_grid(rt.alloc(), &mut words, b"010f\n020a0E\n020A0e")?;
-    check(out.as_slice() == b"81\n82\nFF060300030000\n".as_slice())
+    prints(
+        over_grid(rt.alloc(), &mut [0u64; 64], b"010f\n020a0E\n020A0e"),
+        b"81\n82\nFF060300030000\n",
+    )
 }
 
 #[test]
 fn nothing(rt: HostRuntime) -> Result<(), Fail> {
-    let mut words = [0u64; 4];
-    let out = over_grid(rt.alloc(), &mut words, b"")?;
-    check(out.as_slice() == b"".as_slice())
+    prints(over_grid(rt.alloc(), &mut [0u64; 4], b""), b"")
 }
 
 #[test]

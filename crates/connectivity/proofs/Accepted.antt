@@ -1,13 +1,12 @@
 -- What is known of an accepted question about a pair.
 --
 --   not_err                    a test that would refuse has failed
---   for_steps, for_nodes       enough memory is lent
---   first_words                the first 4,096 words are enough
+--   enough_words, enough_cells    enough memory is lent
 --   are_two                    the pair is two vertices
 --   loose_ends                 and where that was asked, two that are not joined
 --   ends_set                   a split whose ends were set has them, over the same map
 --   edge_room, vertex_room     the nearest cut fits the buffer
-use Rattle.std.proofs.Common.{◌≡◌, ℕ, ◌-◌, ◌≤◌, Bool, true, false, cond, not, ◌&&◌, eqb, ltb, List, length, take, Ok, Err, sym, refl, ap, arith, length-take}
+use Rattle.std.proofs.Common.{◌≡◌, ℕ, ◌-◌, ◌≤◌, Bool, true, false, cond, not, ◌&&◌, eqb, ltb, length, Ok, Err, sym, refl, ap, arith}
 use Rattle.std.proofs.lemmas.Bool.Decides.{nat_tests}
 use Rattle.graph.specs.Graph.{Graph, Simple}
 use Rattle.model.specs.Table.{Reply}
@@ -17,7 +16,7 @@ use Rattle.strength.proofs.CutsFit.{cuts_fit}
 use Rattle.plan.specs.declared.split.Split.{Split}
 use Rattle.plan.specs.Pairs.{Two}
 use Rattle.connectivity.specs.declared.work.Sizes.{Sizes}
-use Rattle.connectivity.specs.Work.{Enough, short}
+use Rattle.connectivity.specs.Work.{short}
 use Rattle.connectivity.specs.Asking.{ends_reply, then_loose}
 
 -- A test that would refuse has failed.
@@ -30,10 +29,6 @@ pub loose_ends : (r : Reply) (g : Graph) (a b : ℕ) → Ok tt ≡ then_loose r 
 loose_ends (Ok tt) g a b h = (refl, (not_err (g.joined a b) _ (Ok tt) h).0)
 loose_ends (Err e) g a b h = let z : ◌≡◌ {A = ℕ} 0 1 = cc in absurd (omega arith)
 
--- The first 4,096 words are as good as all.
-pub first_words : (ws : List ℕ) (m k : ℕ) → Enough (length ws) m k → Enough (length (take (4096 - 0) ws)) m k
-first_words ws m k e = record { words = omega (arith, length-take (4096 - 0) ws, e.words); numbers = e.numbers; cells = e.cells }
-
 -- The ends of a split that were set.
 pub ends_set : {M : Type 0} (x : Split M) (m : M) (a b : ℕ) → x ≡ record { map = m; a = a; b = b } → (x.map ≡ m) × (a ≡ x.a) × (b ≡ x.b)
 ends_set {M} x m a b e = (ap (λ (y : Split M). y.map) e, sym (ap (λ (y : Split M). y.a) e), sym (ap (λ (y : Split M). y.b) e))
@@ -43,12 +38,12 @@ module _ (s : Sizes) (g : Graph) (a b : ℕ) (ok : Ok tt ≡ ends_reply s g a b)
   long : short s g.order ≡ false
   long = (not_err (short s g.order) _ _ ok).0
 
-  -- Enough for a search whose items are steps, and for one whose items are nodes.
-  pub for_steps : Enough s.words s.numbers s.steps
-  for_steps = let l = long in record { words = grind (arith, nat_tests); numbers = grind (arith, nat_tests); cells = grind (arith, nat_tests) }
+  -- Enough words for a flow, enough numbers for the notes, and enough cells for what waits.
+  pub enough_words : 4096 ≤ s.words
+  enough_words = let l = long in grind (arith, nat_tests)
 
-  pub for_nodes : Enough s.words s.numbers s.nodes
-  for_nodes = let l = long in record { words = grind (arith, nat_tests); numbers = grind (arith, nat_tests); cells = grind (arith, nat_tests) }
+  pub enough_cells : (402 ≤ s.numbers) × (402 ≤ s.nodes) × (402 ≤ s.steps)
+  enough_cells = let l = long in (grind (arith, nat_tests), grind (arith, nat_tests), grind (arith, nat_tests))
 
   -- Room for a cut of every size.
   for_cut : g.order - 1 ≤ s.cut

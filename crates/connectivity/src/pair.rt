@@ -2,14 +2,14 @@
 ghost use Rattle.std.specs.Prelude.{◌≡◌, ◌≤◌, false, length, is_ok, if◌then◌else◌};
 ghost use Rattle.cuts.specs.Cuts.{nearest_edge_cut, nearest_vertex_cut};
 ghost use Rattle.plan.specs.Buffers.{in_front};
-ghost use Rattle.connectivity.specs.Work.{Enough};
 ghost use Rattle.connectivity.specs.Asking.{sizes_of, ends_reply, loose_reply, edge_reply, vertex_reply, cut_in};
 
 use crate::run::{RunCount, complete};
-use crate::work::{Sizes, WORDS, Work};
+use crate::work::{Scratch, Sizes, WORDS, Work};
 use cuts::Edge;
 use model::{Refusal, Vertex};
 use plan::{CutPlan, Line, Split};
+use rows::flow::Arcs;
 use store::Map;
 
 // Refuses a and b unless enough memory is lent and they are two vertices.
@@ -21,13 +21,7 @@ fn check_ends<M: Map>(map: &mut M, sizes: Sizes, a: Vertex, b: Vertex) -> Result
     if sizes.is_short(n) {
         return Err(Refusal::ShortMemory);
     }
-    if a >= n || b >= n {
-        return Err(Refusal::NoVertex);
-    }
-    if a == b {
-        return Err(Refusal::SameVertex);
-    }
-    Ok(())
+    store::check_ends(n, a, b)
 }
 
 // Refuses a and b unless enough memory is lent and they are two vertices that are not joined.
@@ -47,26 +41,19 @@ fn settle<P: CutPlan>(
     plan: &mut P,
     a: u16,
     b: u16,
-    work: Work<'_, '_, '_, '_>,
+    flow: &mut Arcs<'_>,
+    scratch: &mut Scratch<'_, '_, '_>,
     cut: &mut [P::Item],
 ) -> u16
     requires asked { P.CutPlan.asked plan.old a b }
-    requires steps { Enough (length work.words.now) (length work.numbers.now) (length work.steps.now) }
-    requires nodes { Enough (length work.words.now) (length work.numbers.now) (length work.nodes.now) }
     requires room { length (P.CutPlan.nearest plan.old a b) ≤ length cut.old }
     ensures value { result ≡ P.CutPlan.valued plan.old a b }
     ensures items { cut.new ≡ in_front (P.CutPlan.nearest plan.old a b) cut.old }
     ensures same { plan.new ≡ plan.old }
 {
-    let Work {
-        words,
-        numbers,
-        nodes,
-        steps,
-    } = work;
     let mut count = RunCount::none();
-    let run = complete(&mut count, plan, words, numbers, steps, a, b);
-    run.write_cut(plan, words, numbers, nodes, cut);
+    let run = complete(&mut count, plan, flow, scratch, a, b);
+    run.write_cut(plan, flow, scratch, cut);
     run.value()
 }
 
@@ -84,27 +71,17 @@ pub fn edge_cut_between<M: Map>(
     ensures same { line.new ≡ line.old }
     ensures unchanged { is_ok result ≡ false → (work.exit.0.now ≡ work.entry.words.now) × (work.exit.1.0.now ≡ work.entry.numbers.now) × (work.exit.1.1.0.now ≡ work.entry.nodes.now) × (work.exit.1.1.1.0.now ≡ work.entry.steps.now) }
 {
+    let sizes = work.sizes(cut.len());
+    check_ends(&mut line.map, sizes, a, b)?;
     let Work {
         words,
         numbers,
         nodes,
         steps,
     } = work;
-    let sizes = Sizes {
-        words: words.len(),
-        numbers: numbers.len(),
-        nodes: nodes.len(),
-        steps: steps.len(),
-        cut: cut.len(),
-    };
-    check_ends(&mut line.map, sizes, a, b)?;
-    let lent = Work {
-        words: &mut words[0..WORDS],
-        numbers,
-        nodes,
-        steps,
-    };
-    Ok(settle(line, a, b, lent, cut))
+    let mut flow = Arcs::over(&mut words[0..WORDS]);
+    let mut scratch = Scratch::over(numbers, nodes, steps);
+    Ok(settle(line, a, b, &mut flow, &mut scratch, cut))
 }
 
 // The vertex value of two unjoined vertices, with their nearest vertex cut in front of the
@@ -122,26 +99,16 @@ pub fn vertex_cut_between<M: Map>(
     ensures same { split.new ≡ (if is_ok result then (record { map = split.old.map; a = a; b = b }) else split.old) }
     ensures unchanged { is_ok result ≡ false → (work.exit.0.now ≡ work.entry.words.now) × (work.exit.1.0.now ≡ work.entry.numbers.now) × (work.exit.1.1.0.now ≡ work.entry.nodes.now) × (work.exit.1.1.1.0.now ≡ work.entry.steps.now) }
 {
+    let sizes = work.sizes(cut.len());
+    check_loose(&mut split.map, sizes, a, b)?;
+    split.set_ends(a, b);
     let Work {
         words,
         numbers,
         nodes,
         steps,
     } = work;
-    let sizes = Sizes {
-        words: words.len(),
-        numbers: numbers.len(),
-        nodes: nodes.len(),
-        steps: steps.len(),
-        cut: cut.len(),
-    };
-    check_loose(&mut split.map, sizes, a, b)?;
-    split.set_ends(a, b);
-    let lent = Work {
-        words: &mut words[0..WORDS],
-        numbers,
-        nodes,
-        steps,
-    };
-    Ok(settle(split, a, b, lent, cut))
+    let mut flow = Arcs::over(&mut words[0..WORDS]);
+    let mut scratch = Scratch::over(numbers, nodes, steps);
+    Ok(settle(split, a, b, &mut flow, &mut scratch, cut))
 }

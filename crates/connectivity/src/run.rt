@@ -1,26 +1,22 @@
 // Runs: the most paths from one node to another that share no arc, found one by one. A searching
 // run can only be pushed, a finished one can only be read: two types, and a push takes the one
-// and gives one of the two. Both are plain numbers; the flow lies in words that are lent at each
+// and gives one of the two. Both are plain numbers; the flow lies in memory that is lent at each
 // call.
 ghost use Rattle.std.specs.Prelude.{◌≡◌, ℕ, ◌+◌, ◌<◌, ◌≤◌, true, false, length};
 ghost use Rattle.flows.specs.Flow.{Digraph, Flow, residual, residual_side};
 ghost use Rattle.augment.specs.Trails.{Trail};
 ghost use Rattle.rows.specs.Flow.{carried};
-ghost use Rattle.connectivity.specs.Work.{Enough};
 ghost use Rattle.rows.specs.Marks.{marked};
 ghost use Rattle.plan.specs.Buffers.{in_front};
 ghost use Rattle.connectivity.specs.Runs.{Held, Largest, PushedOn, EndedAt};
 
-use augment::{augment, trace};
+use crate::work::Scratch;
+use augment::augment;
 use plan::CutPlan;
-use ring::Step;
-use rows::flow::wipe;
+use rows::flow::Arcs;
+use rows::marks::Marks;
 use search::search;
-
-// The words of a set of marked nodes, and the most nodes that a plan has.
-const MARK_WORDS: usize = 7;
-
-const NODES: usize = 402;
+use std::ops::ControlFlow;
 
 // How many runs a call has begun. Only the beginning of a run raises it.
 #[derive(Drop)]
@@ -58,22 +54,19 @@ pub(crate) struct Finished {
     value: u16,
 }
 
-// What a push gives.
-pub(crate) enum Pushed {
-    More(Searching),
-    Done(Finished),
-}
+// What a push gives: the run goes on, longer by a path, or it breaks off, finished.
+pub(crate) type Pushed = ControlFlow<Finished, Searching>;
 
 impl Searching {
-    // Begins a run: the words hold no flow, and the count is one higher.
-    pub(crate) fn begin(count: &mut RunCount, words: &mut [u64], from: u16, to: u16) -> Searching
+    // Begins a run: the memory holds no flow, and the count is one higher.
+    pub(crate) fn begin(count: &mut RunCount, flow: &mut Arcs<'_>, from: u16, to: u16) -> Searching
         requires { count.old.begun + 1 < 4294967296 }
         ensures counted { count.new.begun ≡ count.old.begun + 1 }
         ensures run { result ≡ record { from = from; to = to; value = 0 } }
-        ensures flow { (d : Digraph) → Flow d from to (carried words.new) 0 }
+        ensures flow { (d : Digraph) → Flow d from to (carried flow.new) 0 }
     {
         count.begun += 1;
-        wipe(words);
+        flow.wipe();
         Searching { from, to, value: 0 }
     }
 
@@ -81,23 +74,20 @@ impl Searching {
     fn seek<P: CutPlan>(
         &self,
         plan: &mut P,
-        words: &[u64],
-        numbers: &mut [u16],
-        steps: &mut [Step],
+        flow: &Arcs<'_>,
+        scratch: &mut Scratch<'_, '_, '_>,
     ) -> bool
         requires asked { P.CutPlan.asked plan.old self.now.from self.now.to }
-        requires memory { Enough (length words.now) (length numbers.old) (length steps.old) }
         ensures same { plan.new ≡ plan.old }
-        ensures noted { result ≡ true → Trail (residual (P.Plan.digraph plan.old) (carried words.now)) self.now.from self.now.to numbers.new }
-        ensures stuck { result ≡ false → residual_side (P.Plan.digraph plan.old) (carried words.now) self.now.from self.now.to ≡ false }
+        ensures noted { result ≡ true → Trail (residual (P.Plan.digraph plan.old) (carried flow.now)) self.now.from self.now.to scratch.new.notes.before.now }
+        ensures stuck { result ≡ false → residual_side (P.Plan.digraph plan.old) (carried flow.now) self.now.from self.now.to ≡ false }
     {
-        let mut marks = [0; MARK_WORDS];
         search(
             plan,
-            words,
-            &mut marks,
-            numbers,
-            steps,
+            flow,
+            &mut Marks::none(),
+            &mut scratch.notes,
+            &mut scratch.steps,
             self.from,
             Some(self.to),
         )
@@ -107,24 +97,21 @@ impl Searching {
     fn advance<P: CutPlan>(
         &self,
         plan: &mut P,
-        words: &mut [u64],
-        numbers: &mut [u16],
-        steps: &mut [Step],
+        flow: &mut Arcs<'_>,
+        scratch: &mut Scratch<'_, '_, '_>,
     ) -> bool
         requires asked { P.CutPlan.asked plan.old self.now.from self.now.to }
-        requires flow { Held (P.Plan.digraph plan.old) self.now words.old }
-        requires memory { Enough (length words.old) (length numbers.old) (length steps.old) }
+        requires flow { Held (P.Plan.digraph plan.old) self.now flow.old }
         ensures same { plan.new ≡ plan.old }
-        ensures pushed { result ≡ true → Flow (P.Plan.digraph plan.old) self.now.from self.now.to (carried words.new) (self.now.value + 1) }
-        ensures kept { result ≡ false → words.new ≡ words.old }
-        ensures stuck { result ≡ false → residual_side (P.Plan.digraph plan.old) (carried words.old) self.now.from self.now.to ≡ false }
+        ensures pushed { result ≡ true → Flow (P.Plan.digraph plan.old) self.now.from self.now.to (carried flow.new) (self.now.value + 1) }
+        ensures kept { result ≡ false → flow.new ≡ flow.old }
+        ensures stuck { result ≡ false → residual_side (P.Plan.digraph plan.old) (carried flow.old) self.now.from self.now.to ≡ false }
     {
-        if !self.seek(plan, words, numbers, steps) {
+        if !self.seek(plan, flow, scratch) {
             return false;
         }
-        let mut path = [0; NODES];
-        let n = trace(numbers, self.from, self.to, &mut path);
-        augment(words, &path[0..n]);
+        let path = scratch.notes.trace(self.from, self.to);
+        augment(flow, path.as_slice());
         true
     }
 
@@ -132,27 +119,25 @@ impl Searching {
     pub(crate) fn push<P: CutPlan>(
         self,
         plan: &mut P,
-        words: &mut [u64],
-        numbers: &mut [u16],
-        steps: &mut [Step],
+        flow: &mut Arcs<'_>,
+        scratch: &mut Scratch<'_, '_, '_>,
     ) -> Pushed
         requires asked { P.CutPlan.asked plan.old self.from self.to }
-        requires flow { Held (P.Plan.digraph plan.old) self words.old }
-        requires memory { Enough (length words.old) (length numbers.old) (length steps.old) }
+        requires flow { Held (P.Plan.digraph plan.old) self flow.old }
         ensures same { plan.new ≡ plan.old }
-        ensures after { PushedOn (P.Plan.digraph plan.old) self result words.new }
+        ensures after { PushedOn (P.Plan.digraph plan.old) self result flow.new }
         ensures value { EndedAt (P.CutPlan.valued plan.old self.from self.to) result }
     {
-        let found = self.advance(plan, words, numbers, steps);
+        let found = self.advance(plan, flow, scratch);
         let Searching { from, to, value } = self;
         if found {
-            Pushed::More(Searching {
+            Pushed::Continue(Searching {
                 from,
                 to,
                 value: value + 1,
             })
         } else {
-            Pushed::Done(Finished { from, to, value })
+            Pushed::Break(Finished { from, to, value })
         }
     }
 }
@@ -174,35 +159,40 @@ impl Finished {
     fn mark_side<P: CutPlan>(
         &self,
         plan: &mut P,
-        words: &[u64],
-        marks: &mut [u64],
-        numbers: &mut [u16],
-        nodes: &mut [u16],
+        flow: &Arcs<'_>,
+        marks: &mut Marks,
+        scratch: &mut Scratch<'_, '_, '_>,
     )
         requires asked { P.CutPlan.asked plan.old self.now.from self.now.to }
-        requires memory { (Enough (length words.now) (length numbers.old) (length nodes.old)) × (7 ≤ length marks.old) }
         ensures same { plan.new ≡ plan.old }
-        ensures side { (q : ℕ) → marked marks.new q ≡ residual_side (P.Plan.digraph plan.old) (carried words.now) self.now.from q }
+        ensures side { (q : ℕ) → marked marks.new q ≡ residual_side (P.Plan.digraph plan.old) (carried flow.now) self.now.from q }
     {
-        search(plan, words, marks, numbers, nodes, self.from, None);
+        let from = self.from;
+        search(
+            plan,
+            flow,
+            marks,
+            &mut scratch.notes,
+            &mut scratch.nodes,
+            from,
+            None,
+        );
     }
 
     // Marks the side of the nearest cut: the arcs that leave it are the cut.
     fn sweep<P: CutPlan>(
         &self,
         plan: &mut P,
-        words: &[u64],
-        marks: &mut [u64],
-        numbers: &mut [u16],
-        nodes: &mut [u16],
+        flow: &Arcs<'_>,
+        marks: &mut Marks,
+        scratch: &mut Scratch<'_, '_, '_>,
     )
         requires asked { P.CutPlan.asked plan.old self.now.from self.now.to }
-        requires largest { Largest (P.Plan.digraph plan.old) self.now words.now }
-        requires memory { (Enough (length words.now) (length numbers.old) (length nodes.old)) × (7 ≤ length marks.old) }
+        requires largest { Largest (P.Plan.digraph plan.old) self.now flow.now }
         ensures same { plan.new ≡ plan.old }
         ensures side { P.CutPlan.crossing plan.old self.now.from (marked marks.new) ≡ P.CutPlan.nearest plan.old self.now.from self.now.to }
     {
-        self.mark_side(plan, words, marks, numbers, nodes);
+        self.mark_side(plan, flow, marks, scratch);
     }
 
     // Writes the smallest cut that is nearest to the first end, and says how many items it has.
@@ -210,21 +200,19 @@ impl Finished {
     pub(crate) fn write_cut<P: CutPlan>(
         &self,
         plan: &mut P,
-        words: &[u64],
-        numbers: &mut [u16],
-        nodes: &mut [u16],
+        flow: &Arcs<'_>,
+        scratch: &mut Scratch<'_, '_, '_>,
         cut: &mut [P::Item],
     ) -> usize
         requires asked { P.CutPlan.asked plan.old self.now.from self.now.to }
-        requires largest { Largest (P.Plan.digraph plan.old) self.now words.now }
-        requires memory { Enough (length words.now) (length numbers.old) (length nodes.old) }
+        requires largest { Largest (P.Plan.digraph plan.old) self.now flow.now }
         requires room { length (P.CutPlan.nearest plan.old self.now.from self.now.to) ≤ length cut.old }
         ensures same { plan.new ≡ plan.old }
         ensures count { result ≡ length (P.CutPlan.nearest plan.old self.now.from self.now.to) }
         ensures items { cut.new ≡ in_front (P.CutPlan.nearest plan.old self.now.from self.now.to) cut.old }
     {
-        let mut marks = [0; MARK_WORDS];
-        self.sweep(plan, words, &mut marks, numbers, nodes);
+        let mut marks = Marks::none();
+        self.sweep(plan, flow, &mut marks, scratch);
         plan.write_cut(self.from, &marks, cut)
     }
 }
@@ -233,25 +221,23 @@ impl Finished {
 pub(crate) fn complete<P: CutPlan>(
     count: &mut RunCount,
     plan: &mut P,
-    words: &mut [u64],
-    numbers: &mut [u16],
-    steps: &mut [Step],
+    flow: &mut Arcs<'_>,
+    scratch: &mut Scratch<'_, '_, '_>,
     from: u16,
     to: u16,
 ) -> Finished
     requires count { count.old.begun + 1 < 4294967296 }
     requires asked { P.CutPlan.asked plan.old from to }
-    requires memory { Enough (length words.old) (length numbers.old) (length steps.old) }
     ensures counted { count.new.begun ≡ count.old.begun + 1 }
     ensures same { plan.new ≡ plan.old }
     ensures run { result ≡ record { from = from; to = to; value = P.CutPlan.valued plan.old from to } }
-    ensures largest { Largest (P.Plan.digraph plan.old) result words.new }
+    ensures largest { Largest (P.Plan.digraph plan.old) result flow.new }
 {
-    let mut run = Searching::begin(count, words, from, to);
+    let mut run = Searching::begin(count, flow, from, to);
     loop {
-        match run.push(plan, words, numbers, steps) {
-            Pushed::More(next) => run = next,
-            Pushed::Done(last) => return last,
+        match run.push(plan, flow, scratch) {
+            Pushed::Continue(next) => run = next,
+            Pushed::Break(last) => return last,
         }
     }
 }

@@ -1,3 +1,2 @@
 pub mod Digits
 pub mod Opens
-pub mod Texts

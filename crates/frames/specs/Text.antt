@@ -1,5 +1,6 @@
 -- Replies as text: bytes in capital hexadecimal, one reply a line.
 use Rattle.std.specs.Prelude.{ℕ, ◌+◌, ◌/◌, ◌%◌, cond, List, [], ◌∷◌, ◌++◌, Ok, Err, Result, nat_lt}
+use Rattle.std.specs.List.{flat_map}
 use Rattle.model.specs.declared.call.Answer.{Answer}
 use Rattle.model.specs.Numbers.{answer_number, refusal_number}
 use Rattle.frames.specs.declared.fault.SessionFault.{SessionFault}
@@ -12,9 +13,9 @@ capital d = cond (nat_lt d 10) (48 + d) (55 + d)
 abbrev pub hex_byte : ℕ → List ℕ
 hex_byte b = capital (b / 16) ∷ (capital (b % 16) ∷ [])
 
-unfoldable pub hex_text : List ℕ → List ℕ
-hex_text [] = []
-hex_text (b ∷ bs) = hex_byte b ++ hex_text bs
+-- The bytes of a text, one after the other.
+abbrev pub hex_text : List ℕ → List ℕ
+hex_text bytes = flat_map hex_byte bytes
 
 -- A number in two bytes, the high one first.
 abbrev pub two_bytes : ℕ → List ℕ

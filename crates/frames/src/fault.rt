@@ -14,12 +14,12 @@ pub enum Layer {
     Call = 3,
 }
 
-impl Layer {
-    // The number of the layer.
-    pub fn number(self) -> u8
-        ensures { result ≡ layer_number self }
-    {
-        self as u8
+// The number of a layer.
+impl From<Layer> for u8 {
+    ghost from_gives = { λ layer number. number ≡ layer_number layer };
+
+    fn from(layer: Layer) -> u8 {
+        layer as u8
     }
 }
 

@@ -23,10 +23,7 @@ pub fn frame_kind<B: Bytes>(bytes: &B) -> Result<Kind, FrameFault>
     if bytes.count() == 0 {
         return Err(FrameFault::Empty);
     }
-    match Kind::of(bytes.at(0)) {
-        Some(kind) => Ok(kind),
-        None => Err(FrameFault::UnknownKind),
-    }
+    Kind::try_from(bytes.at(0))
 }
 
 // The call of a frame, once its payload has the length of its kind.
@@ -37,8 +34,8 @@ pub fn call_of<B: Bytes>(frame: &Frame<B>) -> Result<Call, FrameFault>
     if frame.payload.count() != kind.payload_length() {
         return Err(FrameFault::WrongLength);
     }
-    let u = frame.payload.at(0) as Vertex;
-    let v = frame.payload.at(1) as Vertex;
+    let u = Vertex::from(frame.payload.at(0));
+    let v = Vertex::from(frame.payload.at(1));
     Ok(match kind {
         Kind::Make => Call::Make(u),
         Kind::Join => Call::Join(u, v),

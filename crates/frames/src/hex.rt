@@ -1,6 +1,6 @@
 // Hexadecimal text: its digits, and the bytes that it stands for.
-ghost use Rattle.std.specs.Prelude.{◌≡◌, ℕ, ◌<◌, length, is_some};
-ghost use Rattle.frames.specs.Hex.{digit, digit_value, bytes_of, digits_reply};
+ghost use Rattle.std.specs.Prelude.{◌≡◌, ℕ, ◌<◌, length};
+ghost use Rattle.frames.specs.Hex.{digit, digit_value, bytes_of, bad_place, digits_reply};
 
 use crate::bytes::Bytes;
 use crate::fault::DigitFault;
@@ -9,23 +9,12 @@ use crate::fault::DigitFault;
 fn digit(c: u8) -> Option<u8>
     ensures { result ≡ digit c }
 {
-    if c >= 48 && c <= 57 {
-        return Some(c - 48);
+    match c {
+        b'0'..=b'9' => Some(c - b'0'),
+        b'A'..=b'F' => Some(c - b'A' + 10),
+        b'a'..=b'f' => Some(c - b'a' + 10),
+        _ => None,
     }
-    if c >= 65 && c <= 70 {
-        return Some(c - 55);
-    }
-    if c >= 97 && c <= 102 {
-        return Some(c - 87);
-    }
-    None
-}
-
-// Whether a character is a digit.
-fn is_digit(c: u8) -> bool
-    ensures { result ≡ is_some (digit c) }
-{
-    digit(c).is_some()
 }
 
 // The value of a digit, and 0 of any other character.
@@ -36,19 +25,22 @@ fn digit_value(c: u8) -> u8
     digit(c).unwrap_or(0)
 }
 
+// The place, from 0, of the first character that is no digit.
+fn bad_place(line: &[u8]) -> Option<usize>
+    ensures { result ≡ bad_place line.now }
+{
+    line.iter().position(|c| digit(*c).is_none())
+}
+
 // Whether the characters of a line are bytes in hexadecimal, two digits each.
 pub fn check_digits(line: &[u8]) -> Result<(), DigitFault>
     ensures { result ≡ digits_reply line.now }
 {
-    for i in 0..line.len() {
-        if !is_digit(line[i]) {
-            return Err(DigitFault::BadCharacter(i + 1));
-        }
+    match bad_place(line) {
+        Some(place) => Err(DigitFault::BadCharacter(place + 1)),
+        None if line.len() % 2 == 1 => Err(DigitFault::OddCount(line.len())),
+        None => Ok(()),
     }
-    if line.len() % 2 == 1 {
-        return Err(DigitFault::OddCount(line.len()));
-    }
-    Ok(())
 }
 
 // A stretch of an input line, read as bytes in hexadecimal, and its place in the line.
@@ -68,9 +60,9 @@ impl<'a> Bytes for Hex<'a> {
     }
 
     fn at(&self, i: usize) -> u8 {
-        if i >= self.text.len() / 2 {
-            return 0;
+        match self.text.as_chunks::<2>().0.get(i) {
+            Some([high, low]) => 16 * digit_value(*high) + digit_value(*low),
+            None => 0,
         }
-        16 * digit_value(self.text[2 * i]) + digit_value(self.text[2 * i + 1])
     }
 }

@@ -1,6 +1,6 @@
 // Replies as lines of capital hexadecimal.
 ghost use Rattle.std.specs.Prelude.{◌≡◌, ℕ, ◌<◌, List, [], ◌∷◌, ◌++◌, Err, OnOk};
-ghost use Rattle.frames.specs.Text.{capital, hex_byte, hex_text, reply_bytes, reply_text};
+ghost use Rattle.frames.specs.Text.{capital, hex_byte, hex_text, two_bytes, reply_bytes, reply_text};
 
 use crate::fault::SessionFault;
 use model::Answer;
@@ -14,16 +14,14 @@ fn capital(d: u8) -> u8
     requires { d < 16 }
     ensures { result ≡ capital d }
 {
-    if d < 10 { 48 + d } else { 55 + d }
+    if d < 10 { b'0' + d } else { b'A' + (d - 10) }
 }
 
-// Writes one byte.
+// Writes one byte. Not by `write!`, whose error on a `Vec<u8>` is none of the allocator's.
 fn write_byte(out: &mut Vec<u8>, b: u8) -> Result<(), AllocError>
     ensures { OnOk result (out.new.items ≡ out.old.items ++ hex_byte b) }
 {
-    out.push(capital(b / 16))?;
-    out.push(capital(b % 16))?;
-    Ok(())
+    out.extend_from_slice(&[capital(b / 16), capital(b % 16)])
 }
 
 // Writes bytes one after the other.
@@ -36,19 +34,27 @@ fn write_bytes(out: &mut Vec<u8>, bytes: &[u8]) -> Result<(), AllocError>
     Ok(())
 }
 
+// A number in two bytes, the high one first. What is above them is dropped.
+fn two_bytes(x: usize) -> [u8; 2]
+    ensures { result ≡ two_bytes x }
+{
+    ((x % 0x1_0000) as u16).to_be_bytes()
+}
+
 // The bytes of a refusal.
 fn fault_bytes(line: usize, fault: SessionFault) -> [u8; 7]
     ensures { result ≡ reply_bytes line (Err fault) }
 {
-    let detail = fault.detail();
+    let [line_high, line_low] = two_bytes(line);
+    let [detail_high, detail_low] = two_bytes(fault.detail());
     [
         REFUSED,
-        fault.refusal().number(),
-        fault.layer().number(),
-        (line / 256 % 256) as u8,
-        (line % 256) as u8,
-        (detail / 256 % 256) as u8,
-        (detail % 256) as u8,
+        fault.refusal().into(),
+        fault.layer().into(),
+        line_high,
+        line_low,
+        detail_high,
+        detail_low,
     ]
 }
 
@@ -61,7 +67,7 @@ fn write_body(
     ensures { OnOk result (out.new.items ≡ out.old.items ++ hex_text (reply_bytes line reply)) }
 {
     match reply {
-        Ok(answer) => write_byte(out, answer.number()),
+        Ok(answer) => write_byte(out, answer.into()),
         Err(fault) => write_bytes(out, &fault_bytes(line, fault)),
     }
 }
@@ -75,6 +81,6 @@ pub fn write_reply(
     ensures { OnOk result (out.new.items ≡ out.old.items ++ reply_text line reply) }
 {
     write_body(out, line, reply)?;
-    out.push(10)?;
+    out.push(b'\n')?;
     Ok(())
 }

@@ -1,7 +1,4 @@
-pub mod Bits
 pub mod Tallies
-pub mod Low
-pub mod Puts
 pub mod Spans
 pub mod Wipes
 pub mod Changes

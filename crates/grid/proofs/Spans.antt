@@ -1,22 +1,32 @@
 -- What a row counts and finds: of the part that is lent, of the grid, and of the graph that it means.
-use Rattle.std.proofs.Common.{◌≡◌, ℕ, ◌+◌, ◌-◌, ◌*◌, ◌<◌, ◌≤◌, false, List, None, sym, ◌∙◌, arith}
+use Rattle.std.proofs.Common.{◌≡◌, ℕ, ◌+◌, ◌-◌, ◌*◌, ◌<◌, ◌≤◌, false, List, length, None, sym, ap, ◌∙◌, arith}
 use Rattle.std.specs.List.{between}
 use Rattle.std.proofs.lemmas.Bool.{lt-ltb}
+use Rattle.std.proofs.lemmas.List.Edits.{length-between}
 use Rattle.graph.specs.Graph.{Graph, Simple, count, first, degree, next}
 use Rattle.graph.proofs.Counts.{count_ext, count_short, count_none}
 use Rattle.graph.proofs.Firsts.{first_ext, first_short, first_missing}
 use Rattle.graph.proofs.Edges.{joined_outside}
-use Rattle.grid.specs.Rows.{has, set_bits, grid}
-use Rattle.grid.proofs.Puts.{row_part}
+use Rattle.bits.specs.Bits.{has}
+use Rattle.bits.proofs.Parts.{part_has}
+use Rattle.grid.specs.Rows.{set_bits, grid}
 use Rattle.grid.proofs.Tallies.{row_count}
 
--- The bits of u's row, counted.
-pub part_count : (words : List ℕ) (u : ℕ) → set_bits (between (4 * u) (4 * u + 4) words) ≡ count (has words (4 * u)) 256
-part_count words u = row_count (between (4 * u) (4 * u + 4) words) ∙ count_ext _ _ 256 (row_part words u)
+-- The part of the words that is u's row.
+module _ (words row : List ℕ) (u : ℕ) (room : 4 * u + 4 ≤ length words) (part : row ≡ between (4 * u) (4 * u + 4) words) where
+  -- Its bits are those that the grid has there.
+  row_has : (k : ℕ) → k < 256 → has row 0 k ≡ has words (4 * u) k
+  row_has k l = ap (λ (xs : List ℕ). has xs 0 k) part ∙ part_has words (4 * u) (4 * u + 4) k (omega arith)
 
--- The lowest of them from w up.
-pub part_first : (words : List ℕ) (u w : ℕ) → first (has (between (4 * u) (4 * u + 4) words) 0) w (256 - w) ≡ first (has words (4 * u)) w (256 - w)
-part_first words u w = first_ext _ _ w (256 - w) (λ k a l. row_part words u k (omega arith))
+  -- So they are counted.
+  pub part_count : set_bits row ≡ count (has words (4 * u)) 256
+  part_count = row_count row ∙ count_ext (has row 0) (has words (4 * u)) 256 row_has
+
+  -- And so is the lowest of them from w up.
+  pub part_first : (w : ℕ) → first (has row 0) w (64 * length row - w) ≡ first (has words (4 * u)) w (256 - w)
+  part_first w =
+      let four : 64 * length row - w ≡ 256 - w = omega (arith, ap length part, length-between words (4 * u) (4 * u + 4) room) in
+      ap (first (has row 0) w) four ∙ first_ext (has row 0) (has words (4 * u)) w (256 - w) (λ k a l. row_has k (omega arith))
 
 -- The row of a vertex, where the words mean a simple graph.
 module _ (n : ℕ) (words : List ℕ) (simple : Simple (grid n words)) (u : ℕ) (below : u < n) where

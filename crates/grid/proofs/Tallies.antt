@@ -1,11 +1,13 @@
 -- The bits that are set, counted word by word.
-use Rattle.std.proofs.Common.{◌≡◌, ℕ, zero, suc, ◌+◌, ◌*◌, ◌/◌, ◌%◌, ◌^◌, ◌<◌, List, get_or, sym, ◌∙◌, ap₂, arith}
+use Rattle.std.proofs.Common.{◌≡◌, ℕ, zero, suc, ◌+◌, ◌*◌, ◌/◌, ◌^◌, ◌<◌, List, get_or, sym, ◌∙◌, ap₂, arith}
 use lib.Count.{ones, ones_step, ones-le}
 use Rattle.std.proofs.lemmas.Nat.{shr_below}
 use Rattle.graph.specs.Graph.{count}
 use Rattle.graph.proofs.Counts.{count_zero, count_ext, count_front, count_split}
-use Rattle.grid.specs.Rows.{bit, has, set_bits}
-use Rattle.grid.proofs.Bits.{bit_half, bit_low}
+use Rattle.bits.specs.Bits.{bit, has}
+use Rattle.grid.specs.Rows.{set_bits}
+use Rattle.bits.proofs.Bits.{bit_half, bit_low}
+use Rattle.bits.proofs.Scans.{word_at}
 
 -- The number of ones of a word of k bits.
 pub ones_count : (k x : ℕ) → x < 2 ^ k → ones x ≡ count (bit x) k
@@ -16,13 +18,6 @@ ones_count (suc k) x h =
     ∙ ap₂ (λ (a b : ℕ). a + b) (bit_low x)
     (ones_count k (x / 2) (shr_below x k 1 (rw e h)) ∙ count_ext (bit (x / 2)) (λ i. bit x (suc i)) k (λ i _. bit_half x i))
     ∙ sym (count_front (bit x) k)
-
--- Bit 64 i + j of a row is bit j of its word i.
-pub word_at : (row : List ℕ) (i j : ℕ) → j < 64 → has row 0 (64 * i + j) ≡ bit (get_or row i 0) j
-word_at row i j h =
-    let a : 0 + (64 * i + j) / 64 ≡ i = omega arith in
-    let b : (64 * i + j) % 64 ≡ j = omega arith in
-    ap₂ (λ (x y : ℕ). bit (get_or row x 0) y) a b
 
 -- So the 64 bits of a row from 64 i up are those of its word i.
 word_count : (row : List ℕ) (i : ℕ) → count (λ j. has row 0 (64 * i + j)) 64 ≡ count (bit (get_or row i 0)) 64

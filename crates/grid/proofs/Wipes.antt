@@ -1,17 +1,13 @@
 -- Words that are wiped mean a map without edges.
-use Rattle.std.proofs.Common.{◌≡◌, ℕ, ◌+◌, ◌*◌, ◌/◌, ◌%◌, ◌<◌, ◌≤◌, Bool, true, false, ◌&&◌, ltb, List, ◌++◌, length, get_or, drop, replicate, sym, refl, ap, ◌∙◌, ⊎_elim, append-nil, arith, length-append, length-drop}
+use Rattle.std.proofs.Common.{◌≡◌, ℕ, ◌+◌, ◌*◌, ◌/◌, ◌%◌, ◌<◌, ◌≤◌, Bool, true, false, ◌&&◌, ltb, List, length, get_or, sym, refl, ap, ◌∙◌, ⊎_elim, arith, length-append, length-drop}
 use lib.ListN.{length-replicate}
-use Rattle.std.proofs.lemmas.List.{drop_all, places}
+use Rattle.std.proofs.lemmas.List.{places}
 use Rattle.std.proofs.lemmas.Bool.{cases_lt, le-ltb, true≢false}
 use Rattle.graph.specs.Graph.{Simple, order_limit, empty}
 use Rattle.graph.proofs.Edges.{same_graph}
-use Rattle.grid.specs.Rows.{bit, has, grid, wiped}
-use Rattle.grid.proofs.Bits.{zero_bit}
-
--- Where every word is overwritten, nothing is left of the old ones.
-pub all_wiped : (xs : List ℕ) (n : ℕ) → n ≡ length xs → replicate n 0 ++ drop n xs ≡ replicate (length xs) 0
-all_wiped xs n h =
-    ap (λ (ys : List ℕ). replicate n 0 ++ ys) (drop_all n xs (omega arith)) ∙ append-nil (replicate n 0) ∙ ap (λ (k : ℕ). replicate {A = ℕ} k 0) h
+use Rattle.bits.specs.Bits.{bit, has}
+use Rattle.grid.specs.Rows.{grid, wiped}
+use Rattle.bits.proofs.Bits.{zero_bit}
 
 -- The words of the rows are 0.
 wiped_word : (n i : ℕ) (xs : List ℕ) → i < 4 * n → get_or (wiped n xs) i 0 ≡ 0

@@ -1,22 +1,14 @@
 -- The words of a grid: four words for each vertex, its row, and in a row a bit for each number below 256.
 --
---   bit, has   a bit of a word; a bit of the row that begins at a word
 --   set_bits   how many bits of a row are set
 --   grid       the graph that words mean
 --   wiped      words with the rows of a map without edges
 --   pairs      how many pairs n vertices make: the edges that a grid takes
 --   lent_words what words are good for, lent to a make
-use Rattle.std.specs.Prelude.{ℕ, ◌+◌, ◌-◌, ◌*◌, ◌/◌, ◌%◌, ◌^◌, Bool, ◌&&◌, List, ◌++◌, length, drop, replicate, ◌==◌, nat_le, nat_lt, slice_index}
+use Rattle.std.specs.Prelude.{ℕ, ◌+◌, ◌-◌, ◌*◌, ◌/◌, ◌&&◌, List, ◌++◌, length, drop, replicate, nat_le, nat_lt, slice_index}
 use Rattle.graph.specs.Graph.{Graph, count}
+use Rattle.bits.specs.Bits.{bit, has}
 use Rattle.model.specs.Model.{Lent}
-
--- Bit k of a word.
-unfoldable pub bit : ℕ → ℕ → Bool
-bit x k = x / 2 ^ k % 2 == 1
-
--- Bit v of the row that begins at the word `base`.
-abbrev pub has : List ℕ → ℕ → ℕ → Bool
-has words base v = bit (slice_index words (base + v / 64)) (v % 64)
 
 -- The bits of a row that are set, counted word by word.
 abbrev pub set_bits : List ℕ → ℕ

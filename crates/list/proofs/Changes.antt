@@ -1,8 +1,8 @@
 -- A join and a part on cells: what the search for the number found, and what the shift leaves.
-use Rattle.std.proofs.Common.{◌≡◌, ℕ, ◌+◌, ◌-◌, ◌*◌, ◌<◌, ◌≤◌, true, false, ◌&&◌, eqb, ltb, List, length, get_or, Decides, sym, ap, ◌∙◌, subst, mul-le-mul, arith}
+use Rattle.std.proofs.Common.{◌≡◌, ℕ, ◌+◌, ◌-◌, ◌<◌, ◌≤◌, true, false, ◌&&◌, eqb, ltb, List, length, get_or, Decides, sym, ap, ◌∙◌, subst, arith}
 use Rattle.std.proofs.lemmas.Bool.Decides.{Decides-and, Decides-ltb, Decides-eqb}
 use Rattle.graph.specs.Graph.{order_limit, edges, with_edge, without_edge}
-use Rattle.graph.proofs.Edges.{edges_most, one_edge_more_lem, one_edge_less_lem}
+use Rattle.graph.proofs.Edges.{one_edge_more_lem, one_edge_less_lem}
 use Rattle.list.specs.Cells.{code, held, Rising, listing, listing_simple, place, inserted_cells, removed_cells}
 use Rattle.list.specs.Meaning.{codes_of}
 use Rattle.list.specs.declared.List.{List as Store}
@@ -21,12 +21,6 @@ pub record Kept (n k : ℕ) (xs : List ℕ) : Type 0 where
 -- What a list says by its own fields.
 pub kept_of : (s : Store) → Kept s.n s.count (codes_of s)
 kept_of s = record { some = s.some; small = s.small; fits = s.fits; rising = s.rising; tally = s.tally }
-
--- There are no more numbers than pairs of vertices.
-pub kept_few : (n k : ℕ) (xs : List ℕ) → Kept n k xs → 2 * k ≤ order_limit * order_limit
-kept_few n k xs kept =
-    let square : n * n ≤ order_limit * order_limit = mul-le-mul kept.small kept.small in
-    omega (arith, square, kept.tally, edges_most n (listing n k xs).joined)
 
 -- Two different vertices, and the place at of their number d among those cells.
 pub record Sought (n k : ℕ) (xs : List ℕ) (u v d at : ℕ) : Type 0 where

@@ -1,7 +1,7 @@
 -- What cells hold: where a number stands among ascending cells, and what an insertion and a removal change.
 use Rattle.std.proofs.Common.{◌≡◌, ℕ, zero, suc, ◌+◌, ◌-◌, ◌<◌, ◌≤◌, Bool, true, false, cond, not, ◌&&◌, ◌||◌, eqb, ltb, ◌⊎◌, List, get_or, Decides, sym, refl, ap, ◌∙◌, inl, inr, ⊎_elim, arith}
 use Rattle.std.proofs.lemmas.Bool.Decides.{Decides-below_or, Decides-eqb, Decides-or, Decides-and, Decides-not, same_from_decides, Decides-like}
-use Rattle.std.proofs.lemmas.Bool.{cases_eq, cases_lt, lt-ltb, le-ltb, true≢false}
+use Rattle.std.proofs.lemmas.Bool.{cases_Bool, cases_eq, cases_lt, lt-ltb, le-ltb, true≢false}
 use Rattle.graph.specs.Graph.{count}
 use Rattle.graph.proofs.Counts.{count_short}
 use Rattle.list.specs.Cells.{held, Rising, place}
@@ -16,6 +16,17 @@ held_decides : (k : ℕ) (xs : List ℕ) (c : ℕ) → Decides (held k xs c) (Ho
 unfolding held
 held_decides k xs c =
     Decides-below_or (λ i. eqb (get_or xs i 0) c) (λ i. get_or xs i 0 ≡ c) (λ i. held i xs c) (λ i. Decides-eqb (get_or xs i 0) c) refl (λ _. refl) k
+
+-- What one of the cells holds is held, and what none holds is not.
+pub held_where : (k : ℕ) (xs : List ℕ) (c i : ℕ) → i < k → get_or xs i 0 ≡ c → held k xs c ≡ true
+held_where k xs c i l e = (held_decides k xs c).1 (i, l, e)
+
+pub held_nowhere : (k : ℕ) (xs : List ℕ) (c : ℕ) → ((i : ℕ) → i < k → get_or xs i 0 ≡ c → ⊥) → held k xs c ≡ false
+held_nowhere k xs c none =
+    ⊎_elim
+    (λ on. let h = (held_decides k xs c).0 on in absurd (none h.0 h.1 h.2))
+    (λ off. off)
+    (cases_Bool (held k xs c))
 
 -- Where all pass, all are counted.
 count_all : (p : ℕ → Bool) (n : ℕ) → ((i : ℕ) → i < n → p i ≡ true) → count p n ≡ n

@@ -2,3 +2,5 @@ pub mod Shifts
 pub mod Held
 pub mod Listings
 pub mod Changes
+pub mod Searches
+pub mod Chains

@@ -2,6 +2,7 @@
 use Rattle.std.proofs.Common.{◌≡◌, ℕ, ◌+◌, ◌-◌, ◌<◌, ◌≤◌, List, length, get_or, sym, ap, ◌∙◌, ⊎_elim, arith}
 use Rattle.std.proofs.lemmas.List.{places, ext_get_or}
 use Rattle.std.proofs.lemmas.Bool.{cases_eq, cases_lt}
+use borrow.Rule.Slice.PartMut.{put_mid, mid_of, mid_len, same_len_mid}
 use Rattle.list.specs.Cells.{free, inserted_cells, removed_cells}
 
 -- ys is xs with c put in at a place among the first k cells.
@@ -76,3 +77,55 @@ removed_once xs ys zs k at l p q = ext_get_or 0 ys zs (p.size ∙ sym q.size) (�
         (cases_eq i (k - 1)))
         (cases_lt (i + 1) k))
         (cases_lt i at)
+
+-- With the part from `at` to k, both in it, moved up and c moved in, c is put in.
+pub inserted_by_move : (xs part : List ℕ) (k at c : ℕ) → at ≤ k → k < length xs → length part ≡ length (mid_of at (k + 1 - at) xs) → get_or part 0 0 ≡ c
+    → ((i : ℕ) → i + 1 < length (mid_of at (k + 1 - at) xs) → get_or part (i + 1) 0 ≡ get_or (mid_of at (k + 1 - at) xs) i 0) → put_mid at (k + 1 - at) xs part ≡ inserted_cells xs k at c
+inserted_by_move xs part k at c le room size first moved =
+    inserted_once xs (put_mid at (k + 1 - at) xs part) (inserted_cells xs k at c) k at c le filled (inserted_places xs k at c le room)
+  where
+    many : length (mid_of at (k + 1 - at) xs) ≡ k + 1 - at
+    many = mid_len at (k + 1) xs (omega arith)
+
+    long : length part ≡ k + 1 - at
+    long = size ∙ many
+
+    read : (i : ℕ) → at ≤ i → i < k → get_or part (i - at + 1) 0 ≡ get_or xs i 0
+    read i h m = moved (i - at) (omega (arith, many)) ∙ grind (arith, places)
+
+    filled : Inserted xs (put_mid at (k + 1 - at) xs part) k at c
+    filled = record {
+      size = same_len_mid at (k + 1 - at) xs part size;
+      before = λ i h. grind (arith, places, long);
+      here = grind (arith, places, long, first);
+      after = λ i h m. grind (arith, places, long, read i h m);
+      rest = λ i h. grind (arith, places, long);
+    }
+
+-- With the part from `at` up to k moved down, over what stood at `at`, that is taken out.
+pub removed_by_move : (xs part : List ℕ) (k at : ℕ) → at < k → k ≤ length xs → length part ≡ length (mid_of at (k - at) xs)
+    → ((i : ℕ) → i + 1 < length (mid_of at (k - at) xs) → get_or part i 0 ≡ get_or (mid_of at (k - at) xs) (i + 1) 0) → get_or part (length (mid_of at (k - at) xs) - 1) 0 ≡ free
+    → put_mid at (k - at) xs part ≡ removed_cells xs k at
+removed_by_move xs part k at l fits size moved freed =
+    removed_once xs (put_mid at (k - at) xs part) (removed_cells xs k at) k at l closed (removed_places xs k at l fits)
+  where
+    many : length (mid_of at (k - at) xs) ≡ k - at
+    many = mid_len at k xs fits
+
+    long : length part ≡ k - at
+    long = size ∙ many
+
+    read : (i : ℕ) → at ≤ i → i + 1 < k → get_or part (i - at) 0 ≡ get_or xs (i + 1) 0
+    read i h m = moved (i - at) (omega (arith, many)) ∙ grind (arith, places)
+
+    last : get_or part (k - 1 - at) 0 ≡ free
+    last = ap (λ (j : ℕ). get_or part j 0) (omega (arith, many)) ∙ freed
+
+    closed : Removed xs (put_mid at (k - at) xs part) k at
+    closed = record {
+      size = same_len_mid at (k - at) xs part size;
+      before = λ i h. grind (arith, places, long);
+      after = λ i h m. grind (arith, places, long, read i h m);
+      freed = grind (arith, places, long, last);
+      rest = λ i h. grind (arith, places, long);
+    }

@@ -13,7 +13,7 @@ use Rattle.list.specs.declared.List.{List as Store}
 
 -- What the cells hold.
 abbrev pub codes_of : Store → List ℕ
-codes_of s = s.cells.codes.now
+codes_of s = s.codes.now
 
 -- The graph that the cells in use mean.
 abbrev pub graph_of : Store → Graph

@@ -9,7 +9,7 @@ ghost use Rattle.list.specs.Meaning.{codes_of, graph_of, capacity_of, lent_cells
 
 use crate::List;
 use model::{Refusal, Vertex, is_bad_order};
-use store::Editable;
+use store::{Editable, check_ends};
 
 impl<'a> Editable for List<'a> {
     type Memory = &'a mut [u16];
@@ -33,7 +33,7 @@ impl<'a> Editable for List<'a> {
 
     // As many edges as cells.
     fn capacity(&mut self) -> usize {
-        self.cells.len()
+        self.codes.len()
     }
 
     // Lays the edge between u and v: its number goes in where it belongs.
@@ -44,17 +44,11 @@ impl<'a> Editable for List<'a> {
         ensures unchanged { is_ok result ≡ false → self.new ≡ self.old }
         ensures cells { codes_of self.new ≡ joined_cells result self.old u v }
     {
-        let (n, count) = (self.n, self.count);
-        if u >= n || v >= n {
-            return Err(Refusal::NoVertex);
-        }
-        if u == v {
-            return Err(Refusal::SameVertex);
-        }
-        if self.cells.joins(n, count, u, v) {
+        check_ends(self.n, u, v)?;
+        if self.joins(u, v) {
             return Err(Refusal::IsJoined);
         }
-        if count == self.cells.len() {
+        if self.is_full() {
             return Err(Refusal::NoRoom);
         }
         self.lay(u, v);
@@ -69,14 +63,8 @@ impl<'a> Editable for List<'a> {
         ensures unchanged { is_ok result ≡ false → self.new ≡ self.old }
         ensures cells { codes_of self.new ≡ parted_cells result self.old u v }
     {
-        let (n, count) = (self.n, self.count);
-        if u >= n || v >= n {
-            return Err(Refusal::NoVertex);
-        }
-        if u == v {
-            return Err(Refusal::SameVertex);
-        }
-        if !self.cells.joins(n, count, u, v) {
+        check_ends(self.n, u, v)?;
+        if !self.joins(u, v) {
             return Err(Refusal::NotJoined);
         }
         self.take_up(u, v);

@@ -5,8 +5,7 @@ ghost use Rattle.graph.specs.Graph.{order_limit, empty, with_edge, without_edge}
 ghost use Rattle.list.specs.Meaning.{codes_of, graph_of, capacity_of, laid_cells, taken_cells};
 
 use crate::List;
-use crate::cells::Cells;
-use crate::codes::edge_code;
+use crate::codes::{edge_code, move_in, move_out};
 use model::Vertex;
 
 impl<'a> List<'a> {
@@ -17,8 +16,11 @@ impl<'a> List<'a> {
         ensures graph { graph_of result ≡ empty n }
         ensures cells { codes_of result ≡ cells.old }
     {
-        let cells = Cells { codes: cells };
-        List { n, count: 0, cells }
+        List {
+            n,
+            count: 0,
+            codes: cells,
+        }
     }
 
     // Lays the edge between two vertices that are not joined: its number goes in where it
@@ -32,10 +34,12 @@ impl<'a> List<'a> {
         ensures cells { codes_of self.new ≡ laid_cells self.old u v }
     {
         let c = edge_code(u, v);
-        let count = self.count;
-        let at = self.cells.seek(count, c);
-        self.cells.insert(count, at, c);
-        self.count = count + 1;
+        let at = self.seek(c);
+        // The cells are lent whole and once: what the list says of them is owed again only
+        // when the count is right too.
+        let cells = &mut *self.codes;
+        move_in(&mut cells[at..=self.count], c);
+        self.count += 1;
     }
 
     // Takes the edge between two joined vertices up: its number goes out, and the last cell
@@ -47,10 +51,10 @@ impl<'a> List<'a> {
         ensures most { capacity_of self.new ≡ capacity_of self.old }
         ensures cells { codes_of self.new ≡ taken_cells self.old u v }
     {
-        let c = edge_code(u, v);
-        let count = self.count;
-        let at = self.cells.seek(count, c);
-        self.cells.remove(count, at);
-        self.count = count - 1;
+        let at = self.seek(edge_code(u, v));
+        // Lent whole and once, as in `lay`.
+        let cells = &mut *self.codes;
+        move_out(&mut cells[at..self.count]);
+        self.count -= 1;
     }
 }

@@ -4,11 +4,13 @@ use Rattle.model.specs.declared.call.Call.{Call}
 use Rattle.model.specs.Model.{Lent, State, unmade}
 use Rattle.model.specs.Law.{Event, Said, event, after, after_all, Right, AllRight, Sound}
 
+-- The state after one event more.
 after_one : (s : State) (es : List Event) (e : Event) → after_all s (es ++ (e ∷ [])) ≡ after e.lent (after_all s es) e.call
 unfolding after_all
 after_one s [] e = refl
 after_one s (x ∷ es) e = after_one (after x.lent s x.call) es e
 
+-- One right reply more.
 right_one : (s : State) (es : List Event) (e : Event) → AllRight s es → Right e.lent (after_all s es) e.call e.said → AllRight s (es ++ (e ∷ []))
 unfolding after_all AllRight
 right_one s [] e f h = (h, tt)
@@ -19,6 +21,7 @@ pub sound_none : Sound [] unmade
 unfolding after_all AllRight
 sound_none = record { stands = refl; replies = tt }
 
+-- A right reply to one call more keeps a session sound.
 pub sound_one : (es : List Event) (s s' : State) (lent : Lent) (c : Call) (r : Said) → Sound es s → Right lent s c r → s' ≡ after lent s c → Sound (es ++ (event lent c r ∷ [])) s'
 sound_one es s s' lent c r sound right next = record {
   stands = after_one unmade es (event lent c r) ∙ ap (λ (x : State). after lent x c) sound.stands ∙ sym next;

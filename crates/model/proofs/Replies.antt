@@ -1,6 +1,6 @@
 -- What a reply by the table says.
 use Rattle.std.proofs.Common.{◌≡◌, ℕ, ◌<◌, ◌≤◌, Bool, true, false, cond, not, ◌&&◌, ltb, leb, ◌⊎◌, List, [], ◌∷◌, Ok, Err, sym, refl, ap, ◌∙◌, subst, inl, inr, ⊎_elim, arith}
-use Rattle.std.proofs.lemmas.Bool.{cases_Bool, and_parts, leb-true, ltb-true, leb-false, eqb-false, lt-ltb, ne_eqb, lt-leb, true≢false}
+use Rattle.std.proofs.lemmas.Bool.{cases_Bool, and_parts, leb-true, ltb-true, leb-false, eqb-false, lt-ltb, ne_eqb, lt-leb, not-false}
 use Rattle.graph.specs.Graph.{edges}
 use Rattle.model.specs.declared.call.Call.TheVariants.{Make, Join, Part}
 use Rattle.model.specs.declared.refusal.Refusal.{Refusal}
@@ -24,6 +24,7 @@ ascends : List Refusal → Bool
 ascends [] = true
 ascends (r ∷ rs) = above (refusal_number r) rs && ascends rs
 
+-- What stands in a list above n has a larger number.
 above_in : (n : ℕ) (rs : List Refusal) (q : Refusal) → above n rs ≡ true → In q rs → n < refusal_number q
 unfolding above In
 above_in n [] q h i = absurd i
@@ -31,21 +32,15 @@ above_in n (r ∷ rs) q h i =
     let p = and_parts (ltb n (refusal_number r)) (above n rs) h in
     ⊎_elim (λ e. subst (λ (x : Refusal). n < refusal_number x) (sym e) (ltb-true n (refusal_number r) p.0)) (λ j. above_in n rs q p.1 j) i
 
-same_refusal : (a b : Refusal) → ◌≡◌ {A = Reply} (Err a) (Err b) → a ≡ b
-same_refusal a b e = cc
-
-not_both : (a : Refusal) → ◌≡◌ {A = Reply} (Err a) (Ok tt) → ⊥
-not_both a e = let z : ◌≡◌ {A = ℕ} 0 1 = cc in omega arith
-
 -- The first that fits, in a list that ascends.
 fitting : (p : Refusal → Bool) (rs : List Refusal) (r : Refusal) → ascends rs ≡ true → first_fitting p rs ≡ Err r
     → (p r ≡ true) × ((q : Refusal) → In q rs → refusal_number q < refusal_number r → p q ≡ false)
 unfolding ascends In
-fitting p [] r up e = let z : ⊥ = not_both r (sym e) in absurd z
+fitting p [] r up e = cc
 fitting p (x ∷ xs) r up e =
     let u = and_parts (above (refusal_number x) xs) (ascends xs) up in
     ⊎_elim
-    (λ on. let s : x ≡ r = same_refusal x r (rw on at e) in (
+    (λ on. let f = rw on at e in let s : x ≡ r = cc in (
       ap p (sym s) ∙ on,
       λ q i l. ⊎_elim
           (λ same. let z : ⊥ = omega (arith, ap refusal_number same, ap refusal_number s) in absurd z)
@@ -56,19 +51,22 @@ fitting p (x ∷ xs) r up e =
     (t.0, λ q i l. ⊎_elim (λ same. ap p same ∙ off) (λ j. t.1 q j l) i))
     (cases_Bool (p x))
 
+-- Acceptance says that none fits.
 none_fitting : (p : Refusal → Bool) (rs : List Refusal) → first_fitting p rs ≡ Ok tt → (q : Refusal) → In q rs → p q ≡ false
 unfolding In
 none_fitting p [] e q i = absurd i
 none_fitting p (x ∷ xs) e q i =
     ⊎_elim
-    (λ on. let z : ⊥ = not_both x (rw on at e) in absurd z)
+    (λ on. let f = rw on at e in cc)
     (λ off. ⊎_elim (λ same. ap p same ∙ off) (λ j. none_fitting p xs (rw off at e) q j) i)
     (cases_Bool (p x))
 
+-- The checking order ascends.
 ordered : ascends checking_order ≡ true
 unfolding ascends above
 ordered = refl
 
+-- Every refusal stands in it.
 listed : (q : Refusal) → In q checking_order
 unfolding In
 listed BadOrder = inl refl
@@ -86,23 +84,21 @@ listed BadDigits = inr (inr (inr (inr (inr (inr (inr (inr (inr (inr (inr (inl re
 listed BadFrame = inr (inr (inr (inr (inr (inr (inr (inr (inr (inr (inr (inr (inl refl))))))))))))
 listed OutOfTurn = inr (inr (inr (inr (inr (inr (inr (inr (inr (inr (inr (inr (inr (inl refl)))))))))))))
 
+-- The table's reply is the smallest that fits, or none does.
 pub smallest_first_lem : SmallestFirst
 smallest_first_lem lent s c = (
   λ r e. let t = fitting (fits lent s c) checking_order r ordered e in (t.0, λ q l. t.1 q (listed q) l),
   λ e q. none_fitting (fits lent s c) checking_order e q (listed q),
 )
 
-not-true : (b : Bool) → not b ≡ false → b ≡ true
-not-true true h = refl
-not-true false h = let z : ⊥ = true≢false h in absurd z
-
+-- A store accepts a join, and a part, exactly when the plain statement says.
 pub exactly_when : ExactlyWhen
 exactly_when g capacity u v = (join_only, join_if, part_only, part_if)
   where
     join_only : reply_on (bare g capacity) (Join u v) ≡ Ok tt → JoinAccepted g capacity u v
     join_only e =
         let none = (smallest_first_lem nothing (made (bare g capacity)) (Join u v)).1 e in
-        let b = and_parts (ltb u g.order) (ltb v g.order) (not-true (ltb u g.order && ltb v g.order) (none NoVertex)) in
+        let b = and_parts (ltb u g.order) (ltb v g.order) (not-false (ltb u g.order && ltb v g.order) (none NoVertex)) in
         (ltb-true u g.order b.0, ltb-true v g.order b.1, eqb-false u v (none SameVertex), none IsJoined, leb-false capacity (edges g) (none NoRoom))
 
     join_if : JoinAccepted g capacity u v → reply_on (bare g capacity) (Join u v) ≡ Ok tt
@@ -111,8 +107,8 @@ exactly_when g capacity u v = (join_only, join_if, part_only, part_if)
     part_only : reply_on (bare g capacity) (Part u v) ≡ Ok tt → PartAccepted g u v
     part_only e =
         let none = (smallest_first_lem nothing (made (bare g capacity)) (Part u v)).1 e in
-        let b = and_parts (ltb u g.order) (ltb v g.order) (not-true (ltb u g.order && ltb v g.order) (none NoVertex)) in
-        (ltb-true u g.order b.0, ltb-true v g.order b.1, eqb-false u v (none SameVertex), not-true (g.joined u v) (none NotJoined))
+        let b = and_parts (ltb u g.order) (ltb v g.order) (not-false (ltb u g.order && ltb v g.order) (none NoVertex)) in
+        (ltb-true u g.order b.0, ltb-true v g.order b.1, eqb-false u v (none SameVertex), not-false (g.joined u v) (none NotJoined))
 
     part_if : PartAccepted g u v → reply_on (bare g capacity) (Part u v) ≡ Ok tt
     part_if h = rw (lt-ltb u g.order h.0, lt-ltb v g.order h.1, ne_eqb u v h.2, h.3)
@@ -127,5 +123,5 @@ make_accepted lent n h =
     -- Only two tests that pass lead to acceptance.
     passed : (a b : Bool) → cond {A = Reply} (not a) (Err BadOrder) (cond {A = Reply} (not b) (Err ShortMemory) (Ok tt)) ≡ Ok tt → (a ≡ true) × (b ≡ true)
     passed true true h = (refl, refl)
-    passed true false h = let z : ◌≡◌ {A = ℕ} 0 1 = cc in let y : ⊥ = omega arith in absurd y
-    passed false b h = let z : ◌≡◌ {A = ℕ} 0 1 = cc in let y : ⊥ = omega arith in absurd y
+    passed true false h = cc
+    passed false b h = cc

@@ -13,11 +13,11 @@ const MAKE_LIMIT: u16 = 200;
 pub fn is_bad_order(n: u16) -> bool
     ensures { result ≡ bad_order n }
 {
-    n < 1 || n > MAKE_LIMIT
+    !(1..=MAKE_LIMIT).contains(&n)
 }
 
 // A call of a session.
-#[derive(Debug, Clone, Copy)]
+#[derive(Debug, Clone, Copy, PartialEq, Eq)]
 pub enum Call {
     Make(u16),
     Join(Vertex, Vertex),
@@ -36,11 +36,11 @@ pub enum Answer {
     Lifted = 0x85,
 }
 
-impl Answer {
-    // The number of the answer.
-    pub fn number(self) -> u8
-        ensures { result ≡ answer_number self }
-    {
-        self as u8
+// The number of an answer.
+impl From<Answer> for u8 {
+    ghost from_gives = { λ answer number. number ≡ answer_number answer };
+
+    fn from(answer: Answer) -> u8 {
+        answer as u8
     }
 }

@@ -30,6 +30,20 @@ pub(crate) fn edge(low: Vertex, high: Vertex) -> Edge {
     Edge { low, high }
 }
 
+// A buffer that was filled with one item has this cut in front, of as many items as the value, and
+// the item behind it.
+fn check_cut<T: PartialEq + Copy>(
+    value: u16,
+    buffer: &[T],
+    cut: &[T],
+    none: T,
+) -> Result<(), Fail> {
+    check(usize::from(value) == cut.len())?;
+    check(cut.len() < buffer.len())?;
+    check(&buffer[0..cut.len()] == cut)?;
+    check(buffer[cut.len()] == none)
+}
+
 // The nearest edge cut of a pair is this one.
 pub(crate) fn check_edges<S: Editable>(
     pile: &mut Pile<S>,
@@ -45,10 +59,7 @@ pub(crate) fn check_edges<S: Editable>(
         steps: &mut [NO_STEP; CELLS],
     };
     let value = edge_cut_between(pile, a, b, work, &mut buffer)?;
-    check(value as usize == cut.len())?;
-    check(cut.len() < 13)?;
-    check(&buffer[0..cut.len()] == cut)?;
-    check(buffer[cut.len()] == NO_EDGE)
+    check_cut(value, &buffer, cut, NO_EDGE)
 }
 
 // The nearest vertex cut of an unjoined pair is this one.
@@ -66,10 +77,7 @@ pub(crate) fn check_vertices<S: Editable>(
         steps: &mut [NO_STEP; CELLS],
     };
     let value = vertex_cut_between(pile, a, b, work, &mut buffer)?;
-    check(value as usize == cut.len())?;
-    check(cut.len() < 13)?;
-    check(&buffer[0..cut.len()] == cut)?;
-    check(buffer[cut.len()] == NO_VERTEX)
+    check_cut(value, &buffer, cut, NO_VERTEX)
 }
 
 // The pile over a planner of a map of n vertices with these edges.

@@ -26,10 +26,7 @@ fn edge_refusal<S: Editable>(
         nodes: &mut [0; CELLS],
         steps: &mut [NO_STEP; CELLS],
     };
-    match edge_cut_between(pile, a, b, work, &mut buffer[0..room]) {
-        Ok(_) => None,
-        Err(e) => Some(e),
-    }
+    edge_cut_between(pile, a, b, work, &mut buffer[0..room]).err()
 }
 
 // What a vertex question is refused with.
@@ -41,10 +38,7 @@ fn vertex_refusal<S: Editable>(pile: &mut Pile<S>, a: Vertex, b: Vertex) -> Opti
         nodes: &mut [0; CELLS],
         steps: &mut [NO_STEP; CELLS],
     };
-    match vertex_cut_between(pile, a, b, work, &mut buffer) {
-        Ok(_) => None,
-        Err(e) => Some(e),
-    }
+    vertex_cut_between(pile, a, b, work, &mut buffer).err()
 }
 
 // A path of three vertices is asked what it can't be asked.

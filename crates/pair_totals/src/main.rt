@@ -27,151 +27,132 @@ const CUT_ITEMS: usize = 200;
 // How many vertices are asked for against each later one.
 const FIRSTS: u16 = 8;
 
-// What is added up: pairs and their edge values, unjoined pairs and their vertex values, and the
-// items of all cuts as numbers.
-#[derive(Clone, Copy)]
+// An item of a cut, as a number to add up.
+trait Numbered {
+    fn number(&self) -> u64;
+}
+
+// An edge as lower * 256 + higher.
+impl Numbered for Edge {
+    fn number(&self) -> u64 {
+        u64::from(self.low) * 256 + u64::from(self.high)
+    }
+}
+
+// A vertex as it is.
+impl Numbered for Vertex {
+    fn number(&self) -> u64 {
+        u64::from(*self)
+    }
+}
+
+// What is added up of one kind of question: pairs, their values, and the items of their cuts.
+#[derive(Clone, Copy, Default)]
 struct Totals {
     pairs: u64,
-    edge_values: u64,
-    unjoined: u64,
-    vertex_values: u64,
+    values: u64,
     items: u64,
 }
 
-// The sum of the first n edges of a cut, each as lower * 256 + higher.
-fn sum_edges(cut: &[Edge], n: u16) -> u64 {
-    let mut sum: u64 = 0;
-    for edge in cut.iter().take(n as usize) {
-        sum = sum.saturating_add(edge.low as u64 * 256 + edge.high as u64);
-    }
-    sum
-}
-
-// The sum of the first n vertices of a cut.
-fn sum_vertices(cut: &[Vertex], n: u16) -> u64 {
-    let mut sum: u64 = 0;
-    for v in cut.iter().take(n as usize) {
-        sum = sum.saturating_add(*v as u64);
-    }
-    sum
-}
-
 impl Totals {
-    // Nothing is added yet.
-    fn none() -> Totals {
-        Totals {
-            pairs: 0,
-            edge_values: 0,
-            unjoined: 0,
-            vertex_values: 0,
-            items: 0,
-        }
-    }
-
-    // Adds a pair by edges.
-    fn add_edges(&mut self, value: u16, cut: &[Edge]) {
+    // Adds a pair, whose cut stands in front of the buffer.
+    fn add<T: Numbered>(&mut self, value: u16, cut: &[T]) {
         self.pairs = self.pairs.saturating_add(1);
-        self.edge_values = self.edge_values.saturating_add(value as u64);
-        self.items = self.items.saturating_add(sum_edges(cut, value));
-    }
-
-    // Adds an unjoined pair by vertices.
-    fn add_vertices(&mut self, value: u16, cut: &[Vertex]) {
-        self.unjoined = self.unjoined.saturating_add(1);
-        self.vertex_values = self.vertex_values.saturating_add(value as u64);
-        self.items = self.items.saturating_add(sum_vertices(cut, value));
+        self.values = self.values.saturating_add(u64::from(value));
+        self.items = cut
+            .iter()
+            .take(usize::from(value))
+            .fold(self.items, |sum, item| sum.saturating_add(item.number()));
     }
 }
 
-// Adds one pair.
-fn add_pair<S: Editable>(
-    pile: &mut Pile<S>,
-    work: Work<'_, '_, '_, '_>,
-    a: Vertex,
-    b: Vertex,
-    totals: &mut Totals,
-) {
-    let Work {
-        words,
-        numbers,
-        nodes,
-        steps,
-    } = work;
-    let mut edges = [Edge { low: 0, high: 0 }; CUT_ITEMS];
-    let lent = Work {
-        words: &mut *words,
-        numbers: &mut *numbers,
-        nodes: &mut *nodes,
-        steps: &mut *steps,
-    };
-    if let Ok(value) = edge_cut_between(pile, a, b, lent, &mut edges) {
-        totals.add_edges(value, &edges);
-    }
-    let mut vertices = [0; CUT_ITEMS];
-    let lent = Work {
-        words,
-        numbers,
-        nodes,
-        steps,
-    };
-    if let Ok(value) = vertex_cut_between(pile, a, b, lent, &mut vertices) {
-        totals.add_vertices(value, &vertices);
+// The work memory of all questions, one after another.
+#[derive(Drop)]
+struct Memory {
+    words: [u64; WORDS],
+    numbers: [u16; NUMBERS],
+    nodes: [u16; CELLS],
+    steps: [Step; CELLS],
+}
+
+// What is added up of both kinds.
+#[derive(Clone, Copy, Default)]
+struct Sums {
+    edges: Totals,
+    vertices: Totals,
+}
+
+impl Sums {
+    // Adds one pair.
+    fn add_pair<S: Editable>(
+        &mut self,
+        pile: &mut Pile<S>,
+        memory: &mut Memory,
+        a: Vertex,
+        b: Vertex,
+    ) {
+        let Memory {
+            words,
+            numbers,
+            nodes,
+            steps,
+        } = memory;
+        let mut edges = [Edge { low: 0, high: 0 }; CUT_ITEMS];
+        let work = Work {
+            words: &mut *words,
+            numbers: &mut *numbers,
+            nodes: &mut *nodes,
+            steps: &mut *steps,
+        };
+        if let Ok(value) = edge_cut_between(pile, a, b, work, &mut edges) {
+            self.edges.add(value, &edges);
+        }
+        let mut vertices = [0; CUT_ITEMS];
+        let work = Work {
+            words,
+            numbers,
+            nodes,
+            steps,
+        };
+        if let Ok(value) = vertex_cut_between(pile, a, b, work, &mut vertices) {
+            self.vertices.add(value, &vertices);
+        }
     }
 }
 
 // Adds up the pairs of the map of a planner in its pile.
-fn add_up<S: Editable>(
-    pile: &mut Pile<S>,
-    words: &mut [u64],
-    numbers: &mut [u16],
-    nodes: &mut [u16],
-    steps: &mut [Step],
-) -> Totals {
-    let mut totals = Totals::none();
-    let n = pile.map.map.order();
-    for a in 0..FIRSTS {
-        for b in a + 1..n {
-            let work = Work {
-                words: &mut *words,
-                numbers: &mut *numbers,
-                nodes: &mut *nodes,
-                steps: &mut *steps,
-            };
-            add_pair(pile, work, a, b, &mut totals);
-        }
-    }
-    totals
-}
-
-// Adds up the pairs with work memory of its own.
-fn add_all<S: Editable>(pile: &mut Pile<S>) -> Totals {
-    let mut words = [0; WORDS];
-    let mut numbers = [0; NUMBERS];
-    let mut nodes = [0; CELLS];
+fn add_all<S: Editable>(pile: &mut Pile<S>) -> Sums {
     let none = Step {
         node: 0,
         before: 0,
         forwards: true,
     };
-    let mut steps = [none; CELLS];
-    add_up(pile, &mut words, &mut numbers, &mut nodes, &mut steps)
+    let mut memory = Memory {
+        words: [0; WORDS],
+        numbers: [0; NUMBERS],
+        nodes: [0; CELLS],
+        steps: [none; CELLS],
+    };
+    let mut sums = Sums::default();
+    let n = pile.map.map.order();
+    for a in 0..FIRSTS {
+        for b in a + 1..n {
+            sums.add_pair(pile, &mut memory, a, b);
+        }
+    }
+    sums
 }
 
-// The totals of the map that a text of frames makes, if it makes one.
-fn totals_of<S: Editable>(memory: S::Memory, text: &str) -> Option<Totals> {
+// The sums of the map that a text of frames makes, if it makes one.
+fn sums_of<S: Editable>(memory: S::Memory, text: &str) -> Option<Sums> {
     let mut lines = text.lines();
-    let first = lines.next()?;
-    let Ok(Call::Make(n)) = read_call(first.as_bytes()) else {
+    let Ok(Call::Make(n)) = read_call(lines.next()?.as_bytes()) else {
         return None;
     };
-    let Ok(planner) = Planner::<S>::open(n, memory) else {
-        return None;
-    };
+    let planner = Planner::<S>::open(n, memory).ok()?;
     let mut pile = Split::over(Line::over(planner));
-    for line in lines {
-        if let Ok(call) = read_call(line.as_bytes()) {
-            let _ = perform(&mut pile.map.map, call);
-        }
+    for call in lines.filter_map(|line| read_call(line.as_bytes()).ok()) {
+        let _ = perform(&mut pile.map.map, call);
     }
     Some(add_all(&mut pile))
 }
@@ -181,11 +162,12 @@ fn main(rt: HostRuntime) -> anyhow::Result<()> {
     let mut input = String::new(heap);
     rt.stdin().take(READ_LIMIT).read_to_string(&mut input)?;
     let mut words = vec![in heap; 0u64; GRID_WORDS]?;
-    match totals_of::<Grid>(&mut words, &input) {
-        Some(t) => {
+    match sums_of::<Grid>(&mut words, &input) {
+        Some(sums) => {
+            let items = sums.edges.items.saturating_add(sums.vertices.items);
             println!(rt;
-                "{} {} {} {} {}",
-                t.pairs, t.edge_values, t.unjoined, t.vertex_values, t.items
+                "{} {} {} {} {items}",
+                sums.edges.pairs, sums.edges.values, sums.vertices.pairs, sums.vertices.values
             )?;
         }
         None => println!(rt; "no map")?,

@@ -2,8 +2,9 @@
 --
 --   by_edges, next_by_edges    out of an end, and out of the exit of another vertex
 --   by_exit, next_by_exit      out of the other nodes: at most the arc to the exit
-use Rattle.std.proofs.Common.{◌≡◌, ℕ, ◌+◌, ◌-◌, ◌≤◌, false, ◌&&◌, eqb, ltb, leb, Some, None, sym, ◌∙◌, ⊎_elim, arith}
-use Rattle.std.proofs.lemmas.Bool.{cases_Bool, and_parts, ltb-true, leb-true, cond-true, cond-false}
+use Rattle.std.proofs.Common.{◌≡◌, ℕ, ◌+◌, ◌-◌, ◌≤◌, Bool, false, ◌&&◌, eqb, ltb, leb, Some, None, sym, ap, ◌∙◌, ⊎_elim, arith}
+use Rattle.std.specs.Bool.{then_some}
+use Rattle.std.proofs.lemmas.Bool.{cases_Bool, and_parts, ltb-true, leb-true}
 use Rattle.std.proofs.lemmas.Bool.Decides.{nat_tests}
 use Rattle.graph.specs.Graph.{Graph, Simple, next}
 use Rattle.graph.proofs.Firsts.{first_ext, first_found, first_missing, first_short}
@@ -22,11 +23,11 @@ module _ (g : Graph) (a b p w : ℕ) where
       ⊎_elim
       (λ e. let k = and_parts (ltb p g.order) _ e in
       let l = ltb-true p g.order k.0 in
-      cond-true _ _ _ e
+      ap (λ (t : Bool). then_some t (g.order + p)) e
       ∙ first_found _ w (g.order + p) (g.order + g.order) (leb-true w (g.order + p) k.1) (omega arith)
       (λ q _ m. by_exit none q ∙ grind (arith, nat_tests))
       (by_exit none (g.order + p) ∙ grind (arith, nat_tests)))
-      (λ e. cond-false _ _ _ e ∙ first_missing _ w (g.order + g.order) (λ q l _. by_exit none q ∙ grind (arith, nat_tests)))
+      (λ e. ap (λ (t : Bool). then_some t (g.order + p)) e ∙ first_missing _ w (g.order + g.order) (λ q l _. by_exit none q ∙ grind (arith, nat_tests)))
       (cases_Bool (ltb p g.order && leb w (g.order + p)))
 
   module _ (s : Simple g) (u : ℕ) (some : Some u ≡ edges_out g.order a b p) where

@@ -15,7 +15,9 @@ use Rattle.flows.specs.Lists.{upto}
 use Rattle.cuts.specs.declared.edge.Edge.{Edge}
 use Rattle.cuts.specs.Edges.{edge, edges_up, edges_of}
 use Rattle.cuts.specs.Pairs.{crossing_edges, crossing_vertices}
-use Rattle.plan.specs.Writing.{listed, placed, vertex_at, edge_at, next_other, crossing_row}
+use Rattle.std.specs.Bool.{then_some}
+use Rattle.std.specs.Option.{option_to_list}
+use Rattle.plan.specs.Writing.{placed, vertex_at, edge_at, next_other, crossing_row}
 use Rattle.plan.proofs.Placing.{gathered, gathered_same, gathered_none, gathered_leap, Written, written_as, written_room, written_more}
 
 -- A list made from the numbers below n, part by part.
@@ -26,13 +28,13 @@ by_parts h none both zero = none
 by_parts {X} h none both (suc n) = both (upto n) (n ∷ []) ∙ ap (λ (zs : List X). zs ++ h (n ∷ [])) (by_parts h none both n)
 
 -- An item that passes, as a list.
-listed_when : {X : Type 0} (b : Bool) (x : X) → cond b (x ∷ []) [] ≡ listed (cond b (Some x) None)
+listed_when : {X : Type 0} (b : Bool) (x : X) → cond b (x ∷ []) [] ≡ option_to_list (then_some b x)
 listed_when true x = refl
 listed_when false x = refl
 
 -- What is written for the vertex v.
 abbrev pub vertices_at : Graph → ℕ → (ℕ → Bool) → ℕ → List ℕ
-vertices_at g a u v = listed (vertex_at g a u v)
+vertices_at g a u v = option_to_list (vertex_at g a u v)
 
 -- The vertices of a cut, one after another.
 pub vertices_gathered : (g : Graph) (a : ℕ) (u : ℕ → Bool) → crossing_vertices g a u ≡ gathered (vertices_at g a u) g.order
@@ -41,14 +43,14 @@ vertices_gathered g a u =
     by_parts (filter test) refl (filter-append test) g.order ∙ gathered_same _ _ g.order (λ v _. listed_when (test v) v)
 
 -- A vertex told by the map as it is now, which is as it was at first.
-pub vertex_listed : (g h : Graph) (a : ℕ) (u : ℕ → Bool) (v : ℕ) (o : Option ℕ) → h ≡ g → o ≡ vertex_at h a u v → listed o ≡ vertices_at g a u v
-vertex_listed g h a u v o same e = ap (λ (x : Option ℕ). listed x) (e ∙ ap (λ (k : Graph). vertex_at k a u v) same)
+pub vertex_listed : (g h : Graph) (a : ℕ) (u : ℕ → Bool) (v : ℕ) (o : Option ℕ) → h ≡ g → o ≡ vertex_at h a u v → option_to_list o ≡ vertices_at g a u v
+vertex_listed g h a u v o same e = ap (λ (x : Option ℕ). option_to_list x) (e ∙ ap (λ (k : Graph). vertex_at k a u v) same)
 
 -- Room for the cut is room for what is written.
-pub vertices_fit : (g h : Graph) (a : ℕ) (u : ℕ → Bool) (room : ℕ) → g ≡ h → length (crossing_vertices h a u) ≤ room
-    → 0 + length (gathered (vertices_at g a u) g.order) ≤ room
-vertices_fit g h a u room same l =
-    omega (arith, ap length (vertices_gathered g a u), ap (λ (k : Graph). length (crossing_vertices k a u)) same)
+pub vertices_fit : (g h : Graph) (a : ℕ) (u : ℕ → Bool) (k room : ℕ) → g ≡ h → k + length (crossing_vertices h a u) ≤ room
+    → k + length (gathered (vertices_at g a u) g.order) ≤ room
+vertices_fit g h a u k room same l =
+    omega (arith, ap length (vertices_gathered g a u), ap (λ (m : Graph). length (crossing_vertices m a u)) same)
 
 -- What is written for all vertices is the cut.
 pub vertices_all : (g h : Graph) (a : ℕ) (u : ℕ → Bool) (n : ℕ) → g ≡ h → n ≡ h.order → gathered (vertices_at g a u) n ≡ crossing_vertices h a u
@@ -63,7 +65,7 @@ apart u p q = (u p && not (u q)) || (u q && not (u p))
 
 -- What is written for q in the row of p.
 abbrev pub row_at : Graph → (ℕ → Bool) → ℕ → ℕ → List Edge
-row_at g u p q = cond (ltb p q && apart u p q) (listed (edge_at g p q)) []
+row_at g u p q = cond (ltb p q && apart u p q) (option_to_list (edge_at g p q)) []
 
 -- Where p is in the set, exactly one of the two is in it if q is not; else if q is.
 by_side : (a b : Bool) → cond a (not b) b ≡ ((a && not b) || (b && not a))
@@ -97,14 +99,14 @@ row_leap g u p w v l e = gathered_leap (row_at g u p) w v l (λ q a b. cond-fals
 
 -- An edge up from p, told by the map as it is now, which is as it was at first.
 edge_listed : (g h : Graph) (u : ℕ → Bool) (p q : ℕ) (o : Option Edge) → p < q → apart u p q ≡ true → h ≡ g → o ≡ edge_at h p q
-    → listed o ≡ row_at g u p q
+    → option_to_list o ≡ row_at g u p q
 edge_listed g h u p q o l differ same e =
-    ap (λ (x : Option Edge). listed x) (e ∙ ap (λ (k : Graph). edge_at k p q) same)
+    ap (λ (x : Option Edge). option_to_list x) (e ∙ ap (λ (k : Graph). edge_at k p q) same)
     ∙ sym (cond-true (ltb p q && apart u p q) _ _ (and_from (ltb p q) (apart u p q) (lt-ltb p q l) differ))
 
 -- One pair of a row.
 one_of_row : (t : Edge → Bool) (f : ℕ → Edge) (q : ℕ) (low join : Bool)
-    → filter t (map f (cond (low && join) (q ∷ []) [])) ≡ cond (low && t (f q)) (listed (cond join (Some (f q)) None)) []
+    → filter t (map f (cond (low && join) (q ∷ []) [])) ≡ cond (low && t (f q)) (option_to_list (then_some join (f q))) []
 one_of_row t f q false join = refl
 one_of_row t f q true true = refl
 one_of_row t f q true false = elim (t (f q)) as (λ b. ◌≡◌ {A = List Edge} [] (cond b [] [])) [ true ↦ refl | false ↦ refl ]
@@ -131,7 +133,7 @@ module _ (g h : Graph) (u : ℕ → Bool) (p w n q : ℕ) (start buffer : List E
   up_to = let f = other_found u p w n q found in written_as (row_leap g u p w q f.from f.none) so_far
 
   -- What the map tells of p and q is what is written for q.
-  for_q : listed o ≡ row_at g u p q
+  for_q : option_to_list o ≡ row_at g u p q
   for_q = let f = other_found u p w n q found in edge_listed g h u p q o (omega (arith, f.from)) f.here same told
 
   -- The row fits.
@@ -139,17 +141,17 @@ module _ (g h : Graph) (u : ℕ → Bool) (p w n q : ℕ) (start buffer : List E
   fits = omega (arith, ap length (row_gathered g u p))
 
   -- Room for the row is room for the edge to q.
-  pub row_room : j + length (listed o) ≤ length buffer
+  pub row_room : j + length (option_to_list o) ≤ length buffer
   row_room =
       let f = other_found u p w n q found in
-      written_room start buffer k j (row_at g u p) g.order q (omega (arith, f.below)) fits up_to (listed o) for_q
+      written_room start buffer k j (row_at g u p) g.order q (omega (arith, f.below)) fits up_to (option_to_list o) for_q
 
   -- With that edge, the row is written up to q and q itself.
-  pub row_more : (after : List Edge) (m : ℕ) → m ≡ j + length (listed o) → after ≡ placed j (listed o) buffer
+  pub row_more : (after : List Edge) (m : ℕ) → m ≡ j + length (option_to_list o) → after ≡ placed j (option_to_list o) buffer
       → Written start after k m (gathered (row_at g u p) (q + 1))
   row_more =
       let f = other_found u p w n q found in
-      written_more start buffer k j (row_at g u p) g.order q (omega (arith, f.below)) fits up_to (listed o) for_q
+      written_more start buffer k j (row_at g u p) g.order q (omega (arith, f.below)) fits up_to (option_to_list o) for_q
 
 -- Where none is left on the other side of p, the row is written.
 pub row_all : (g : Graph) (u : ℕ → Bool) (p w n : ℕ) → n ≡ g.order → w ≤ n → None ≡ next_other u p w n → gathered (row_at g u p) w ≡ crossing_row g u p
@@ -173,10 +175,10 @@ edges_gathered g u =
     ∙ gathered_same _ _ g.order (λ p _. ap (filter t) (append-nil (edges_up g p)))
 
 -- Room for the cut is room for all rows.
-pub edges_fit : (g h : Graph) (u : ℕ → Bool) (room : ℕ) → g ≡ h → length (crossing_edges h u) ≤ room
-    → 0 + length (gathered (crossing_row g u) g.order) ≤ room
-edges_fit g h u room same l =
-    omega (arith, ap length (edges_gathered g u), ap (λ (k : Graph). length (crossing_edges k u)) same)
+pub edges_fit : (g h : Graph) (u : ℕ → Bool) (k room : ℕ) → g ≡ h → k + length (crossing_edges h u) ≤ room
+    → k + length (gathered (crossing_row g u) g.order) ≤ room
+edges_fit g h u k room same l =
+    omega (arith, ap length (edges_gathered g u), ap (λ (m : Graph). length (crossing_edges m u)) same)
 
 -- All rows are the cut.
 pub edges_all : (g h : Graph) (u : ℕ → Bool) (n : ℕ) → g ≡ h → n ≡ h.order → gathered (crossing_row g u) n ≡ crossing_edges h u

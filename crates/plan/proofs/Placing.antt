@@ -110,9 +110,9 @@ pub record Written {X : Type 0} (start buffer : List X) (k j : ℕ) (xs : List X
   pub items : buffer ≡ placed k xs start
 
 -- Nothing is written yet.
-pub written_none : {X : Type 0} (start : List X) (k : ℕ) (xs : List X) → xs ≡ [] → Written start start k k xs
-written_none {X} start k xs e =
-    record { next = omega (arith, ap length e); items = sym (ap (λ (zs : List X). placed k zs start) e ∙ placed_none k start) }
+pub written_none : {X : Type 0} (start buffer : List X) (k j : ℕ) (xs : List X) → buffer ≡ start → j ≡ k → xs ≡ [] → Written start buffer k j xs
+written_none {X} start buffer k j xs same here e =
+    record { next = omega (arith, here, ap length e); items = same ∙ sym (ap (λ (zs : List X). placed k zs start) e ∙ placed_none k start) }
 
 -- What is written is the same list by another name.
 pub written_as : {X : Type 0} {start buffer : List X} {k j : ℕ} {xs ys : List X} → xs ≡ ys → Written start buffer k j xs → Written start buffer k j ys
@@ -146,11 +146,7 @@ module _ {X : Type 0} (start buffer : List X) (k j : ℕ) (f : ℕ → List X) (
       }
 
 -- All that was written, by another name.
-module _ {X : Type 0} (start buffer : List X) (xs ys : List X) (same : xs ≡ ys) where
-  -- From place k on.
-  pub written_all : (k j : ℕ) → Written start buffer k j xs → (j ≡ k + length ys) × (buffer ≡ placed k ys start)
-  written_all k j w = (w.next ∙ ap (λ (zs : List X). k + length zs) same, w.items ∙ ap (λ (zs : List X). placed k zs start) same)
-
-  -- In front.
-  pub written_front : (j : ℕ) → Written start buffer 0 j xs → (j ≡ length ys) × (buffer ≡ in_front ys start)
-  written_front j w = let r = written_all 0 j w in (r.0 ∙ zero-add (length ys), r.1 ∙ placed_front ys start)
+pub written_all : {X : Type 0} (start buffer : List X) (xs ys : List X) → xs ≡ ys → (k j : ℕ) → Written start buffer k j xs
+    → (j ≡ k + length ys) × (buffer ≡ placed k ys start)
+written_all {X} start buffer xs ys same k j w =
+    (w.next ∙ ap (λ (zs : List X). k + length zs) same, w.items ∙ ap (λ (zs : List X). placed k zs start) same)

@@ -1,19 +1,14 @@
 -- What the items of a cut are where a loop comes to them one after another, and how they stand in a buffer.
 --
---   listed                    an item that may be there, as a list
 --   placed                    a list in place of the entries of a buffer from a place on; the others keep their content
 --   vertex_at, edge_at        what is written for a vertex, and for a pair of vertices
 --   next_other                the lowest number from w up that is on the other side of a set than p
 --   crossing_row              the edges from a vertex up that have one end in a set
-use Rattle.std.specs.Prelude.{ℕ, ◌+◌, ◌-◌, Bool, cond, not, ◌&&◌, ◌||◌, List, [], ◌∷◌, ◌++◌, length, take, drop, Some, None, filter, Option, ◌==◌}
+use Rattle.std.specs.Prelude.{ℕ, ◌+◌, ◌-◌, Bool, cond, not, ◌&&◌, ◌||◌, List, ◌++◌, length, take, drop, filter, Option, ◌==◌}
+use Rattle.std.specs.Bool.{then_some}
 use Rattle.graph.specs.Graph.{Graph, first}
 use Rattle.cuts.specs.declared.edge.Edge.{Edge}
 use Rattle.cuts.specs.Edges.{edge, edges_up}
-
--- One item or none.
-abbrev pub listed : {X : Type 0} → Option X → List X
-listed None = []
-listed (Some x) = x ∷ []
 
 -- The entries before place k, the list, and the entries that it does not cover.
 unfoldable pub placed : {X : Type 0} → ℕ → List X → List X → List X
@@ -21,11 +16,11 @@ placed k xs buffer = take k buffer ++ (xs ++ drop (k + length xs) buffer)
 
 -- The vertex v, where the arc through it leaves the set u of nodes, or the arc from a to it does.
 abbrev pub vertex_at : Graph → ℕ → (ℕ → Bool) → ℕ → Option ℕ
-vertex_at g a u v = cond ((u v && not (u (g.order + v)) && not (v == a)) || (not (u v) && g.joined a v)) (Some v) None
+vertex_at g a u v = then_some ((u v && not (u (g.order + v)) && not (v == a)) || (not (u v) && g.joined a v)) v
 
 -- The edge between p and q, if there is one.
 abbrev pub edge_at : Graph → ℕ → ℕ → Option Edge
-edge_at g p q = cond (g.joined p q) (Some (edge p q)) None
+edge_at g p q = then_some (g.joined p q) (edge p q)
 
 -- The lowest number from w up and below n that is outside the set u if p is in it, and in it if p is outside.
 abbrev pub next_other : (ℕ → Bool) → ℕ → ℕ → ℕ → Option ℕ

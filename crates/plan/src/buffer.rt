@@ -1,18 +1,44 @@
 // Items written into a lent buffer, one after another.
 ghost use Rattle.std.specs.Prelude.{◌≡◌, ◌+◌, ◌≤◌, length};
-ghost use Rattle.plan.specs.Writing.{listed, placed};
+ghost use Rattle.std.specs.Option.{option_to_list};
+ghost use Rattle.plan.specs.Writing.{placed};
 
-// Writes an item at place k, if there is one, and says which place comes next.
-pub(crate) fn keep<T: Copy>(buffer: &mut [T], k: usize, item: Option<T>) -> usize
-    requires { k + length (listed item) ≤ length buffer.old }
-    ensures next { result ≡ k + length (listed item) }
-    ensures items { buffer.new ≡ placed k (listed item) buffer.old }
-{
-    match item {
-        Some(x) => {
-            buffer[k] = x;
-            k + 1
+// A buffer, of which the first slots are written; the others have what stood in them before.
+#[derive(Drop)]
+pub(crate) struct Filling<'a, T> {
+    slots: &'a mut [T],
+    len: usize,
+    ghost fits: { len ≤ length slots.now },
+}
+
+impl<'a, T: Copy> Filling<'a, T> {
+    // A buffer of which nothing is written yet.
+    pub(crate) fn over(slots: &'a mut [T]) -> Filling<'a, T>
+        ensures len { result.len ≡ 0 }
+        ensures slots { result.slots.now ≡ slots.old }
+        ensures same_reference { result.slots.ghost_name ≡ slots.entry.ghost_name }
+    {
+        Filling { slots, len: 0 }
+    }
+
+    // How many items are written.
+    pub(crate) fn len(&self) -> usize
+        ensures { result ≡ self.now.len }
+    {
+        self.len
+    }
+
+    // Writes an item behind the others, if there is one.
+    #[tactic(auto, using(crate::proofs::Placing::placed_none, crate::proofs::Placing::placed_one))]
+    pub(crate) fn extend(&mut self, item: Option<T>)
+        requires { self.old.len + length (option_to_list item) ≤ length self.old.slots.now }
+        ensures next { self.new.len ≡ self.old.len + length (option_to_list item) }
+        ensures same_reference { self.new.slots.ghost_name ≡ self.old.slots.ghost_name }
+        ensures items { self.new.slots.now ≡ placed self.old.len (option_to_list item) self.old.slots.now }
+    {
+        if let Some(x) = item {
+            self.slots[self.len] = x;
+            self.len += 1;
         }
-        None => k,
     }
 }

@@ -14,6 +14,7 @@ mod line;
 mod split;
 
 pub use line::Line;
+use rows::marks::Marks;
 pub use split::Split;
 
 // A digraph that answers questions. Every answer is read off the digraph alone, for every
@@ -65,7 +66,7 @@ pub trait CutPlan: Plan {
 
     // Writes the items at which arcs leave the marked nodes, a set that has `from`, and says how
     // many they are. Entries past them keep their content.
-    fn write_cut(&mut self, from: u16, marks: &[u64], cut: &mut [Self::Item]) -> usize
+    fn write_cut(&mut self, from: u16, marks: &Marks, cut: &mut [Self::Item]) -> usize
         requires { length (crossing self.old from (marked marks.now)) ≤ length cut.old }
         ensures count { result ≡ length (crossing self.old from (marked marks.now)) }
         ensures items { cut.new ≡ in_front (crossing self.old from (marked marks.now)) cut.old }

@@ -8,11 +8,11 @@ ghost use Rattle.plan.specs.Tells.{edge_two, edge_counted, edge_told};
 ghost use Rattle.plan.specs.Writing.{placed, edge_at, next_other, crossing_row};
 ghost use Rattle.rows.specs.Marks.{marked};
 
-use crate::buffer::keep;
+use crate::buffer::Filling;
 use crate::{CutPlan, Plan};
 use cuts::Edge;
 use model::Vertex;
-use rows::marks::{is_marked, next_marked, next_unmarked};
+use rows::marks::Marks;
 use store::Map;
 
 // A map below. It stays a map, so that a split can lie over it; edits go down by the field.
@@ -31,14 +31,14 @@ impl<M> Line<M> {
 }
 
 // The lowest node from w up and below n whose mark differs from that of u.
-fn next_other(marks: &[u64], u: Vertex, w: Vertex, n: u16) -> Option<Vertex>
+fn next_other(marks: &Marks, u: Vertex, w: Vertex, n: u16) -> Option<Vertex>
     requires { n ≤ 448 }
     ensures { result ≡ next_other (marked marks.now) u w n }
 {
-    if is_marked(marks, u) {
-        next_unmarked(marks, w, n)
+    if marks.has(u) {
+        marks.next_unmarked(w, n)
     } else {
-        next_marked(marks, w, n)
+        marks.next_marked(w, n)
     }
 }
 
@@ -48,31 +48,39 @@ impl<M: Map> Line<M> {
         ensures value { result ≡ edge_at (M.Map.graph self.old.map) u v }
         ensures same { self.new ≡ self.old }
     {
-        if self.map.joined(u, v) {
-            Some(Edge { low: u, high: v })
-        } else {
-            None
+        self.map.joined(u, v).then_some(Edge { low: u, high: v })
+    }
+
+    // Writes the edges from u up that have one end marked, behind those that are written.
+    fn write_row(&mut self, n: u16, marks: &Marks, u: Vertex, cut: &mut Filling<'_, Edge>)
+        requires order { n ≡ (M.Map.graph self.old.map).order }
+        requires within { u < n }
+        requires room { cut.old.len + length (crossing_row (M.Map.graph self.old.map) (marked marks.now) u) ≤ length cut.old.slots.now }
+        ensures same_reference { cut.new.slots.ghost_name ≡ cut.old.slots.ghost_name }
+        ensures next { cut.new.len ≡ cut.old.len + length (crossing_row (M.Map.graph self.old.map) (marked marks.now) u) }
+        ensures items { cut.new.slots.now ≡ placed cut.old.len (crossing_row (M.Map.graph self.old.map) (marked marks.now) u) cut.old.slots.now }
+        ensures same { self.new ≡ self.old }
+    {
+        let mut w = u + 1;
+        while let Some(v) = next_other(marks, u, w, n) {
+            cut.extend(self.edge_at(u, v));
+            w = v + 1;
         }
     }
 
-    // Writes the edges from u up that have one end marked, from place k on, and says which place
-    // comes next.
-    fn write_row(&mut self, n: u16, marks: &[u64], u: Vertex, cut: &mut [Edge], k: usize) -> usize
-        requires order { n ≡ (M.Map.graph self.old.map).order }
-        requires within { u < n }
-        requires room { k + length (crossing_row (M.Map.graph self.old.map) (marked marks.now) u) ≤ length cut.old }
-        ensures next { result ≡ k + length (crossing_row (M.Map.graph self.old.map) (marked marks.now) u) }
-        ensures items { cut.new ≡ placed k (crossing_row (M.Map.graph self.old.map) (marked marks.now) u) cut.old }
+    // Writes the edges that have one end marked, behind those that are written, by their lower and
+    // then by their higher end.
+    fn write_rows(&mut self, marks: &Marks, cut: &mut Filling<'_, Edge>)
+        requires { cut.old.len + length (crossing_edges (M.Map.graph self.old.map) (marked marks.now)) ≤ length cut.old.slots.now }
+        ensures same_reference { cut.new.slots.ghost_name ≡ cut.old.slots.ghost_name }
+        ensures next { cut.new.len ≡ cut.old.len + length (crossing_edges (M.Map.graph self.old.map) (marked marks.now)) }
+        ensures items { cut.new.slots.now ≡ placed cut.old.len (crossing_edges (M.Map.graph self.old.map) (marked marks.now)) cut.old.slots.now }
         ensures same { self.new ≡ self.old }
     {
-        let mut at = k;
-        let mut w = u + 1;
-        while let Some(v) = next_other(marks, u, w, n) {
-            let item = self.edge_at(u, v);
-            at = keep(cut, at, item);
-            w = v + 1;
+        let n = self.map.order();
+        for u in 0..n {
+            self.write_row(n, marks, u, cut);
         }
-        at
     }
 }
 
@@ -146,12 +154,10 @@ impl<M: Map> CutPlan for Line<M> {
     ghost told = { λ s. edge_told (M.Map.graph s.map) (M.Map.simple s.map) };
 
     // Writes the edges that have one end marked, by their lower and then by their higher end.
-    fn write_cut(&mut self, _from: u16, marks: &[u64], cut: &mut [Edge]) -> usize {
-        let n = self.map.order();
-        let mut k = 0;
-        for u in 0..n {
-            k = self.write_row(n, marks, u, cut, k);
-        }
-        k
+    #[tactic(auto, using(crate::proofs::Placing::placed_front))]
+    fn write_cut(&mut self, _from: u16, marks: &Marks, cut: &mut [Edge]) -> usize {
+        let mut edges = Filling::over(cut);
+        self.write_rows(marks, &mut edges);
+        edges.len()
     }
 }

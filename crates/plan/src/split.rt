@@ -1,20 +1,20 @@
 // A map as a plan of vertices, for two ends: the vertex v has its entry, node v, and its exit,
 // node n + v, with one arc from the entry to the exit. An end has its entry alone, from which
 // its edges set out too.
-ghost use Rattle.std.specs.Prelude.{◌≡◌, ◌<◌, ◌≤◌};
+ghost use Rattle.std.specs.Prelude.{◌≡◌, ◌+◌, ◌<◌, ◌≤◌, length};
 ghost use Rattle.graph.specs.Graph.{order_limit};
 ghost use Rattle.cuts.specs.Cuts.{vertex_value, nearest_vertex_cut};
 ghost use Rattle.cuts.specs.Pairs.{is_end, split, crossing_vertices};
 ghost use Rattle.plan.specs.Plans.{split_is_sound, split_small};
 ghost use Rattle.plan.specs.Nodes.{edges_out, exit_from};
 ghost use Rattle.plan.specs.Tells.{Ends, vertex_two, vertex_counted, vertex_told};
-ghost use Rattle.plan.specs.Writing.{vertex_at};
+ghost use Rattle.plan.specs.Writing.{placed, vertex_at};
 ghost use Rattle.rows.specs.Marks.{marked};
 
-use crate::buffer::keep;
+use crate::buffer::Filling;
 use crate::{CutPlan, Plan};
 use model::Vertex;
-use rows::marks::is_marked;
+use rows::marks::Marks;
 use store::Map;
 
 // A map below, of any kind, and the two ends; edits go down by the field.
@@ -53,34 +53,46 @@ impl<M> Split<M> {
         ensures { result ≡ edges_out n self.now.a self.now.b p }
     {
         if p < n {
-            if self.is_end(p) { Some(p) } else { None }
-        } else if self.is_end(p - n) {
-            None
+            self.is_end(p).then_some(p)
         } else {
-            Some(p - n)
+            (!self.is_end(p - n)).then_some(p - n)
         }
     }
 }
 
 impl<M: Map> Split<M> {
     // The vertex v, if the arc through it leaves the marked nodes, or the arc from `from` to it.
-    fn vertex_at(&mut self, n: u16, from: Vertex, marks: &[u64], v: Vertex) -> Option<Vertex>
+    fn vertex_at(&mut self, n: u16, from: Vertex, marks: &Marks, v: Vertex) -> Option<Vertex>
         requires order { n ≡ (M.Map.graph self.old.map).order }
         requires within { (v < n) × (n ≤ order_limit) }
         ensures value { result ≡ vertex_at (M.Map.graph self.old.map) from (marked marks.now) v }
         ensures same { self.new ≡ self.old }
     {
-        if is_marked(marks, v) {
-            let inside = v == from || is_marked(marks, n + v);
-            if inside { None } else { Some(v) }
+        if marks.has(v) {
+            (v != from && !marks.has(n + v)).then_some(v)
         } else {
-            let out = self.map.joined(from, v);
-            if out { Some(v) } else { None }
+            self.map.joined(from, v).then_some(v)
+        }
+    }
+
+    // Writes the vertices at which arcs leave the marked nodes, behind those that are written, in
+    // ascending order.
+    fn write_vertices(&mut self, from: Vertex, marks: &Marks, cut: &mut Filling<'_, Vertex>)
+        requires { cut.old.len + length (crossing_vertices (M.Map.graph self.old.map) from (marked marks.now)) ≤ length cut.old.slots.now }
+        ensures same_reference { cut.new.slots.ghost_name ≡ cut.old.slots.ghost_name }
+        ensures next { cut.new.len ≡ cut.old.len + length (crossing_vertices (M.Map.graph self.old.map) from (marked marks.now)) }
+        ensures items { cut.new.slots.now ≡ placed cut.old.len (crossing_vertices (M.Map.graph self.old.map) from (marked marks.now)) cut.old.slots.now }
+        ensures same { self.new ≡ self.old }
+    {
+        let n = self.map.order();
+        for v in 0..n {
+            cut.extend(self.vertex_at(n, from, marks, v));
         }
     }
 }
 
 // The exit of the vertex p, unless p is none or w is past the exit.
+// An `if` and no `then_some`, since the sum fits only where p is a vertex.
 fn exit_from(n: u16, p: u16, w: u16) -> Option<u16>
     requires { n ≤ order_limit }
     ensures { result ≡ exit_from n p w }
@@ -118,6 +130,7 @@ impl<M: Map> Plan for Split<M> {
     }
 
     // The lowest entry from w up to which an edge leads out of p, or else the exit of the entry p.
+    #[tactic(auto, using(crate::proofs::Arcs::next_by_exit))]
     fn next_arc(&mut self, p: u16, w: u16) -> Option<u16> {
         let n = self.map.order();
         match self.edges_out(n, p) {
@@ -144,13 +157,10 @@ impl<M: Map> CutPlan for Split<M> {
     ghost told = { λ s. vertex_told (M.Map.graph s.map) (M.Map.simple s.map) s.a s.b };
 
     // Writes the vertices at which arcs leave the marked nodes, in ascending order.
-    fn write_cut(&mut self, from: u16, marks: &[u64], cut: &mut [Vertex]) -> usize {
-        let n = self.map.order();
-        let mut k = 0;
-        for v in 0..n {
-            let item = self.vertex_at(n, from, marks, v);
-            k = keep(cut, k, item);
-        }
-        k
+    #[tactic(auto, using(crate::proofs::Placing::placed_front))]
+    fn write_cut(&mut self, from: u16, marks: &Marks, cut: &mut [Vertex]) -> usize {
+        let mut vertices = Filling::over(cut);
+        self.write_vertices(from, marks, &mut vertices);
+        vertices.len()
     }
 }

@@ -1,21 +1,14 @@
 // The planner over a grid: frames on standard input, answers on standard output.
 #![tactic(auto)]
 
-use delivery::over_grid;
-use std::io::{Read, Write};
-
-// One byte more than is served, so that longer input shows.
-const READ_LIMIT: u64 = 32769;
+use delivery::{over_grid, run};
 
 // Words for 200 vertices, four each.
 const WORDS: usize = 800;
 
 fn main(rt: HostRuntime) -> anyhow::Result<()> {
-    let heap = rt.alloc();
-    let mut input = Vec::new(heap);
-    rt.stdin().take(READ_LIMIT).read_to_end(&mut input)?;
-    let mut words = vec![in heap; 0u64; WORDS]?;
-    let out = over_grid(heap, &mut words, &input)?;
-    rt.stdout().write_all(&out)?;
-    Ok(())
+    run(&rt, |heap, input| {
+        let mut words = vec![in heap; 0u64; WORDS]?;
+        over_grid(heap, &mut words, input)
+    })
 }

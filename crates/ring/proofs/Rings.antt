@@ -4,8 +4,6 @@ use lib.Seq.{drop-set-add, take-nil}
 use Rattle.std.proofs.lemmas.List.{drop_all, take_more_set, drop_more}
 use Rattle.std.proofs.lemmas.Bool.{cases_lt, lt-ltb, le-ltb}
 use Rattle.ring.specs.Items.{round, ring_items}
-use Rattle.ring.specs.Held.{held, room}
-use Rattle.ring.specs.declared.Ring.{Ring}
 
 -- Where no item is counted, none is held.
 pub items_none : {X : Type 0} (s : List X) (h n : ℕ) → n ≡ 0 → (0 < length s → h < length s) → ring_items s h n ≡ []
@@ -83,23 +81,44 @@ items_popped s h n d p q l =
     (λ a. rw (le-ltb (h + 1) (length s) a) (pop_high s h n (h + 1 - length s) d p q (omega arith) (omega arith)))
     (cases_lt (h + 1) (length s))
 
--- A ring with a free slot, after an item is put in the slot behind the last one.
-pub pushed : {X : Type 0} (r : Ring X) (at : ℕ) (x : X) → r.len < room r → at ≡ round (room r) (r.head + r.len)
-    → ring_items (set r.slots.now at x) r.head (r.len + 1) ≡ held r ++ x ∷ []
-pushed r at x l e = rw e (items_pushed r.slots.now r.head r.len x l (r.inside (omega arith)))
+-- The slot behind a slot is one.
+round_inside : (size h : ℕ) → 0 < size → h < size → round size (h + 1) < size
+round_inside size h p l =
+    ⊎_elim
+    (λ a. rw (lt-ltb (h + 1) size a) a)
+    (λ a. rw (le-ltb (h + 1) size a) (omega arith))
+    (cases_lt (h + 1) size)
 
--- It counts one item more.
-pub pushed_count : {X : Type 0} (r : Ring X) (at : ℕ) (x : X) → r.len < room r → at ≡ round (room r) (r.head + r.len)
-    → length (ring_items (set r.slots.now at x) r.head (r.len + 1)) ≡ r.len + 1
-pushed_count r at x l e =
-    ap length (pushed r at x l e) ∙ length-append (held r) (x ∷ []) ∙ ap (λ (n : ℕ). n + 1) r.counted
+-- What every ring keeps to: no more items than slots, the head in a slot, and as many items as counted.
+abbrev pub Kept : {X : Type 0} → List X → ℕ → ℕ → Type 0
+Kept s h n = (n ≤ length s) × (0 < length s → h < length s) × (length (ring_items s h n) ≡ n)
 
--- A ring where an item waits, after the head moves on.
-pub popped : {X : Type 0} (r : Ring X) (next : ℕ) (d : X) → 0 < r.len → next ≡ round (room r) (r.head + 1)
-    → held r ≡ get_or r.slots.now r.head d ∷ ring_items r.slots.now next (r.len - 1)
-popped r next d l e = rw e (items_popped r.slots.now r.head r.len d l r.fits (r.inside (omega (arith, r.fits))))
+-- After an item is put in the slot behind the last one, it stands at the end.
+pub pushed : {X : Type 0} (s : List X) (h n at : ℕ) (x : X) → n < length s → Kept s h n → at ≡ round (length s) (h + n)
+    → ring_items (set s at x) h (n + 1) ≡ ring_items s h n ++ x ∷ []
+pushed s h n at x l k e = rw e (items_pushed s h n x l (k.1 (omega arith)))
 
--- It counts one item less; any element stands for the one that is given away.
-pub popped_count : {X : Type 0} (r : Ring X) (next : ℕ) (d : X) → 0 < r.len → next ≡ round (room r) (r.head + 1)
-    → length (ring_items r.slots.now next (r.len - 1)) ≡ r.len - 1
-popped_count r next d l e = let p = ap length (popped r next d l e) in omega (arith, p, r.counted)
+-- And the ring keeps to the same.
+pub pushed_count : {X : Type 0} (s : List X) (h n at : ℕ) (x : X) → n < length s → Kept s h n → at ≡ round (length s) (h + n)
+    → Kept (set s at x) h (n + 1)
+pushed_count s h n at x l k e =
+    let head = k.1 (omega arith) in (
+      simp length-set (omega arith),
+      λ _. simp length-set head,
+      ap length (pushed s h n at x l k e) ∙ length-append (ring_items s h n) (x ∷ []) ∙ ap (λ (m : ℕ). m + 1) k.2,
+    )
+
+-- After the head moves on, the item that it left stood in front of the rest; any element stands for it.
+pub popped : {X : Type 0} (s : List X) (h n next : ℕ) (d : X) → 0 < n → Kept s h n → next ≡ round (length s) (h + 1)
+    → ring_items s h n ≡ get_or s h d ∷ ring_items s next (n - 1)
+popped s h n next d l k e = rw e (items_popped s h n d l k.0 (k.1 (omega (arith, k.0))))
+
+-- And the ring keeps to the same.
+pub popped_count : {X : Type 0} (s : List X) (h n next : ℕ) (d : X) → 0 < n → Kept s h n → next ≡ round (length s) (h + 1)
+    → Kept s next (n - 1)
+popped_count s h n next d l k e =
+    let p = ap length (popped s h n next d l k e) in (
+      omega (arith, k.0),
+      λ some. rw e (round_inside (length s) h some (k.1 some)),
+      omega (arith, p, k.2),
+    )

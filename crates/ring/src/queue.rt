@@ -1,15 +1,36 @@
 // What a ring does: it takes an item at the end, and gives the first one away.
-ghost use Rattle.std.specs.Prelude.{◌≡◌, ◌+◌, ◌<◌, false, [], ◌∷◌, ◌++◌, length, is_some, if◌then◌else◌, ◌==◌, nat_lt};
+ghost use Rattle.std.specs.Prelude.{◌≡◌, ◌+◌, ◌<◌, ◌≤◌, false, [], ◌∷◌, ◌++◌, length, is_ok, is_some, IfErr, if◌then◌else◌, ◌==◌, nat_lt};
 ghost use Rattle.ring.specs.Items.{round};
-ghost use Rattle.ring.specs.Held.{held, room, popped_from};
+ghost use Rattle.ring.specs.Queue.{popped_from};
 
-use crate::Ring;
+use std::marker::Model;
+
+// The `len` items that wait, the first of them in the slot `head`.
+#[derive(Drop)]
+pub struct Ring<'a, T: Copy> {
+    slots: &'a mut [T],
+    head: usize,
+    len: usize,
+}
+
+// Clauses see the items in their order, and how many there is room for.
+impl<'a, T: Copy> Model for Ring<'a, T> {
+    ghost use Rattle.std.specs.Prelude.{◌≡◌, ◌<◌, ◌≤◌, length};
+    ghost use Rattle.ring.specs.Items.{ring_items};
+    ghost use Rattle.ring.specs.Queue.{Queue};
+
+    ghost Value = { Queue T };
+
+    ghost view = { λ r. record { items = ring_items r.slots.now r.head r.len; room = length r.slots.now } };
+
+    ghost invariant = { λ r. (r.len ≤ length r.slots.now) × (0 < length r.slots.now → r.head < length r.slots.now) × (length (ring_items r.slots.now r.head r.len) ≡ r.len) };
+}
 
 impl<'a, T: Copy> Ring<'a, T> {
     // A ring that holds nothing, with room for an item in each slot.
     pub fn new(slots: &'a mut [T]) -> Ring<'a, T>
-        ensures items { held result ≡ [] }
-        ensures room { room result ≡ length slots.old }
+        ensures items { result.items ≡ [] }
+        ensures room { result.room ≡ length slots.old }
     {
         Ring {
             slots,
@@ -20,75 +41,64 @@ impl<'a, T: Copy> Ring<'a, T> {
 
     // How many items wait.
     pub fn len(&self) -> usize
-        ensures { result ≡ length (held self.now) }
+        ensures { result ≡ length self.now.items }
     {
-        self.len // as the ring's fact `counted` says
+        self.len // one for each item that waits
     }
 
     // Whether no item waits.
     pub fn is_empty(&self) -> bool
-        ensures { result ≡ (length (held self.now) == 0) }
+        ensures { result ≡ (length self.now.items == 0) }
     {
-        self.len == 0
+        self.len() == 0
     }
 
     // Whether each slot is taken.
     fn is_full(&self) -> bool
-        ensures { result ≡ (length (held self.now) == room self.now) }
+        ensures { result ≡ (length self.now.items == self.now.room) }
     {
         self.len == self.slots.len()
     }
 
-    // The slot behind the last item. The sum is not formed where it would pass the last slot.
-    fn end(&self) -> usize
-        requires { self.now.len < room self.now }
-        ensures { result ≡ round (room self.now) (self.now.head + self.now.len) }
-    {
-        let left = self.slots.len() - self.head;
-        if self.len < left {
-            self.head + self.len
-        } else {
-            self.len - left
-        }
-    }
-
-    // The slot behind the first item.
-    fn second(&self) -> usize
-        requires { 0 < room self.now }
-        ensures { result ≡ round (room self.now) (self.now.head + 1) }
-    {
-        let next = self.head + 1;
-        if next == self.slots.len() { 0 } else { next }
-    }
-
-    // Takes an item at the end, unless the ring is full.
-    pub fn push(&mut self, x: T) -> bool
-        ensures took { result ≡ nat_lt (length (held self.old)) (room self.old) }
-        ensures items { held self.new ≡ held self.old ++ (if result then x ∷ [] else []) }
-        ensures room { room self.new ≡ room self.old }
-        ensures unchanged { result ≡ false → self.new ≡ self.old }
+    // Takes an item at the end, or gives it back if the ring is full.
+    pub fn push(&mut self, x: T) -> Result<(), T>
+        ensures took { is_ok result ≡ nat_lt (length self.old.items) self.old.room }
+        ensures items { self.new.items ≡ self.old.items ++ (if is_ok result then x ∷ [] else []) }
+        ensures room { self.new.room ≡ self.old.room }
+        ensures unchanged { is_ok result ≡ false → self.new ≡ self.old }
+        ensures handed_back { IfErr result (λ y. y ≡ x) }
     {
         if self.is_full() {
-            return false;
+            return Err(x);
         }
-        let at = self.end();
+        let at = slot_behind(self.slots.len(), self.head, self.len);
         self.slots[at] = x;
         self.len += 1;
-        true
+        Ok(())
     }
 
     // Gives the first item away, if one waits.
     pub fn pop(&mut self) -> Option<T>
-        ensures items { held self.old ≡ popped_from result (held self.new) }
-        ensures room { room self.new ≡ room self.old }
+        ensures items { self.old.items ≡ popped_from result self.new.items }
+        ensures room { self.new.room ≡ self.old.room }
         ensures unchanged { is_some result ≡ false → self.new ≡ self.old }
     {
         if self.is_empty() {
             return None;
         }
         let x = self.slots[self.head];
-        self.head = self.second();
+        self.head = slot_behind(self.slots.len(), self.head, 1);
         self.len -= 1;
         Some(x)
     }
+}
+
+// The slot that is n on from the slot `head`, where there are `size` slots. The sum is not formed
+// where it would pass the last slot.
+fn slot_behind(size: usize, head: usize, n: usize) -> usize
+    requires { (head < size) × (n ≤ size) }
+    ensures { result ≡ round size (head + n) }
+{
+    let left = size - head;
+    if n < left { head + n } else { n - left }
 }

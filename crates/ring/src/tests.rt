@@ -7,7 +7,7 @@ use std::test::Fail;
 fn takes_any_kind(rt: HostRuntime) -> Result<(), Fail> {
     let mut numbers = [0u16; 2];
     let mut nodes = Ring::new(&mut numbers);
-    assert!(rt; nodes.push(7));
+    assert!(rt; nodes.push(7).is_ok());
     assert_eq!(rt; nodes.pop(), Some(7));
     let along = Step {
         node: 4,
@@ -21,7 +21,7 @@ fn takes_any_kind(rt: HostRuntime) -> Result<(), Fail> {
     };
     let mut places = [back; 2];
     let mut steps = Ring::new(&mut places);
-    assert!(rt; steps.push(along) && steps.push(back));
+    assert!(rt; steps.push(along).is_ok() && steps.push(back).is_ok());
     let Some(first) = steps.pop() else {
         return Err(Fail::new("no step"));
     };
@@ -35,8 +35,8 @@ fn takes_any_kind(rt: HostRuntime) -> Result<(), Fail> {
 fn refuses_when_full(rt: HostRuntime) {
     let mut numbers = [0u16; 2];
     let mut nodes = Ring::new(&mut numbers);
-    assert!(rt; nodes.push(1) && nodes.push(2));
-    assert!(rt; !nodes.push(3));
+    assert!(rt; nodes.push(1).is_ok() && nodes.push(2).is_ok());
+    assert!(rt; nodes.push(3) == Err(3));
     assert_eq!(rt; nodes.len(), 2);
     assert_eq!(rt; nodes.pop(), Some(1));
     assert_eq!(rt; nodes.pop(), Some(2));
@@ -50,7 +50,7 @@ fn keeps_order_round_the_end(rt: HostRuntime) {
     let mut numbers = [0u16; 3];
     let mut nodes = Ring::new(&mut numbers);
     for i in 0..20 {
-        assert!(rt; nodes.push(i) && nodes.push(i + 100));
+        assert!(rt; nodes.push(i).is_ok() && nodes.push(i + 100).is_ok());
         assert_eq!(rt; nodes.pop(), Some(i));
         assert_eq!(rt; nodes.pop(), Some(i + 100));
     }

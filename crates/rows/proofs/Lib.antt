@@ -1,4 +1,2 @@
-pub mod Turns
-pub mod Writes
-pub mod Scans
 pub mod Sets
+pub mod Heads

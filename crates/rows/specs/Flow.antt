@@ -1,14 +1,15 @@
--- A set of arcs between nodes in 4,096 words, by head: row p is the eight words from 8 p, and bit q
+-- A set of arcs between nodes in words, by head: row p is the eight words from 8 p, and bit q
 -- of its first seven words says whether the set has the arc from q to p.
 --
 --   carried                 whether the set has the arc from q to p
 --   with_arc, without_arc   a set of arcs with one arc more, and without one
-use Rattle.std.specs.Prelude.{ℕ, ◌*◌, Bool, not, ◌&&◌, ◌||◌, List, ◌==◌, nat_lt}
-use Rattle.grid.specs.Rows.{has}
+use Rattle.std.specs.Prelude.{ℕ, ◌*◌, Bool, not, ◌&&◌, ◌||◌, ◌==◌, nat_lt}
+use Rattle.bits.specs.Bits.{has}
+use Rattle.rows.specs.declared.flow.Arcs.{Arcs}
 
 -- No tail is 448 or more, and no head 512 or more; a bit past the words is clear.
-unfoldable pub carried : List ℕ → ℕ → ℕ → Bool
-carried words q p = (nat_lt q 448 && nat_lt p 512) && has words (8 * p) q
+unfoldable pub carried : Arcs → ℕ → ℕ → Bool
+carried a q p = (nat_lt q 448 && nat_lt p 512) && has a.words.now (8 * p) q
 
 -- The arcs of f and the arc from q to p.
 abbrev pub with_arc : (ℕ → ℕ → Bool) → ℕ → ℕ → (ℕ → ℕ → Bool)

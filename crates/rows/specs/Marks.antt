@@ -1,9 +1,10 @@
 -- A set of node numbers in seven words: bit p mod 64 of word p div 64 says whether p is marked.
 --
 --   marked   whether a number is in the set
-use Rattle.std.specs.Prelude.{ℕ, Bool, ◌&&◌, List, nat_lt}
-use Rattle.grid.specs.Rows.{has}
+use Rattle.std.specs.Prelude.{ℕ, Bool, ◌&&◌, nat_lt}
+use Rattle.bits.specs.Bits.{has}
+use Rattle.rows.specs.declared.marks.Marks.{Marks}
 
 -- No number from 448 up is marked.
-unfoldable pub marked : List ℕ → ℕ → Bool
-marked words p = nat_lt p 448 && has words 0 p
+unfoldable pub marked : Marks → ℕ → Bool
+marked m p = nat_lt p 448 && has m.words 0 p

@@ -1,56 +1,73 @@
-// The nodes that a search has seen: a set of numbers below 448, in seven lent words.
-ghost use Rattle.std.specs.Prelude.{◌≡◌, ℕ, ◌-◌, ◌<◌, ◌≤◌, Bool, false, not, ◌||◌, length, drop, if◌then◌else◌, ◌==◌};
+// The nodes that a search has seen: a set of numbers below 448, in seven words.
+ghost use Rattle.std.specs.Prelude.{◌≡◌, ℕ, ◌-◌, ◌<◌, ◌≤◌, Bool, false, not, ◌||◌, if◌then◌else◌, ◌==◌};
 ghost use Rattle.graph.specs.Graph.{first};
 ghost use Rattle.rows.specs.Marks.{marked};
 
-use crate::words::{USED_BITS, USED_WORDS, has_bit, lowest, set_bit, word_at};
+// How many numbers the set can hold.
+const MOST: u16 = 448;
 
-// Writes 0 into the first n words: seven of them are the whole set.
-fn zero_front(words: &mut [u64], n: usize)
-    requires { n ≤ length words.old }
-    ensures marks { 7 ≤ n → marked words.new ≡ (λ k. false) }
-    ensures rest { drop n words.new ≡ drop n words.old }
-{
-    grid::wipe(&mut words[0..n]);
+// The set owns its words, so that none is marked by another's write.
+#[derive(Clone, Copy)]
+pub struct Marks {
+    words: [u64; 7],
 }
 
-// Unmarks every node, and leaves the words past the seventh as they are.
-pub fn clear(words: &mut [u64])
-    requires { 7 ≤ length words.old }
-    ensures marks { marked words.new ≡ (λ k. false) }
-    ensures rest { drop 7 words.new ≡ drop 7 words.old }
-{
-    zero_front(words, USED_WORDS as usize);
-}
-
-// Marks node p; a number past the set is ignored.
-pub fn mark(words: &mut [u64], p: u16)
-    requires { 7 ≤ length words.old }
-    ensures marks { p < 448 → marked words.new ≡ (λ k. marked words.old k || k == p) }
-    ensures past { 448 ≤ p → words.new ≡ words.old }
-    ensures rest { drop 7 words.new ≡ drop 7 words.old }
-{
-    if p < USED_BITS {
-        set_bit(words, p as usize / 64, p % 64);
+impl Marks {
+    // The set with no node marked.
+    #[tactic(auto, using(crate::proofs::Sets::none_marked))]
+    pub fn none() -> Marks
+        ensures { marked result ≡ (λ k. false) }
+    {
+        Marks { words: [0; 7] }
     }
-}
 
-// Whether node p is marked.
-pub fn is_marked(words: &[u64], p: u16) -> bool
-    ensures { result ≡ marked words.now p }
-{
-    if p < USED_BITS {
-        has_bit(word_at(words, p as usize / 64), p % 64)
-    } else {
-        false
+    // Unmarks every node.
+    pub fn clear(&mut self)
+        ensures { marked self.new ≡ (λ k. false) }
+    {
+        *self = Marks::none();
     }
-}
 
-// The lowest node from w up that is marked, or that is not.
-fn lowest_node(words: &[u64], seen: bool, w: u16) -> Option<u16>
-    ensures { result ≡ first (λ q. (if seen then marked words.now q else not (marked words.now q))) w (448 - w) }
-{
-    lowest(words, 0, seen, w)
+    // Marks node p; a number past the set is ignored.
+    pub fn mark(&mut self, p: u16)
+        ensures marks { p < 448 → marked self.new ≡ (λ k. marked self.old k || k == p) }
+        ensures past { 448 ≤ p → self.new ≡ self.old }
+    {
+        if p < MOST {
+            bits::set(&mut self.words, p, true);
+        }
+    }
+
+    // Whether node p is marked.
+    #[tactic(auto, using(crate::proofs::Sets::marked_has))]
+    pub fn has(&self, p: u16) -> bool
+        ensures { result ≡ marked self.now p }
+    {
+        bits::has(&self.words, p)
+    }
+
+    // The lowest node from w up that is marked, or that is not.
+    fn lowest(&self, seen: bool, w: u16) -> Option<u16>
+        ensures { result ≡ first (λ q. (if seen then marked self.now q else not (marked self.now q))) w (448 - w) }
+    {
+        bits::next(&self.words, seen, w)
+    }
+
+    // The lowest node from w up and below n that is not marked.
+    pub fn next_unmarked(&self, w: u16, n: u16) -> Option<u16>
+        requires { n ≤ 448 }
+        ensures { result ≡ first (λ q. not (marked self.now q)) w (n - w) }
+    {
+        below(self.lowest(false, w), n)
+    }
+
+    // The lowest node from w up and below n that is marked.
+    pub fn next_marked(&self, w: u16, n: u16) -> Option<u16>
+        requires { n ≤ 448 }
+        ensures { result ≡ first (λ q. marked self.now q) w (n - w) }
+    {
+        below(self.lowest(true, w), n)
+    }
 }
 
 // What a search found, if it is below n: what the same search finds below n.
@@ -58,24 +75,5 @@ fn below(found: Option<u16>, n: u16) -> Option<u16>
     requires { n ≤ 448 }
     ensures { (p : ℕ → Bool) (w : ℕ) → found ≡ first p w (448 - w) → result ≡ first p w (n - w) }
 {
-    match found {
-        Some(q) => { if q < n { Some(q) } else { None } }
-        None => None,
-    }
-}
-
-// The lowest node from w up and below n that is not marked.
-pub fn next_unmarked(words: &[u64], w: u16, n: u16) -> Option<u16>
-    requires { n ≤ 448 }
-    ensures { result ≡ first (λ q. not (marked words.now q)) w (n - w) }
-{
-    below(lowest_node(words, false, w), n)
-}
-
-// The lowest node from w up and below n that is marked.
-pub fn next_marked(words: &[u64], w: u16, n: u16) -> Option<u16>
-    requires { n ≤ 448 }
-    ensures { result ≡ first (λ q. marked words.now q) w (n - w) }
-{
-    below(lowest_node(words, true, w), n)
+    found.filter(|q| *q < n)
 }

@@ -122,8 +122,8 @@ module _ {d : Digraph} {f : ℕ → ℕ → Bool} {s : ℕ} {goal : Option ℕ} 
               ⊎_elim (λ b. (passed_all t.behind none).all q l b) (λ b. t.ahead.all q (omega arith) b) (either_step d f p q r);
         }
 
-    -- A node q is found from p, and there is room to note p for it.
-    module _ {q : ℕ} (wide : q < length before) where
+    -- A node q is found from p, and there is room to note p for it; the notes after that.
+    module _ {q : ℕ} (wide : q < length before) {after : List ℕ} (note : after ≡ set before q p) where
       -- It is found along an arc with room, and marked.
       ahead_new : {m' : ℕ → Bool} → ((k : ℕ) → m' k ≡ (m k || eqb k q)) → Found (fresh m (along d f p)) v d.nodes q
           → Entry d f s goal (λ x. x ≡ p) queue m m' before p q
@@ -138,13 +138,17 @@ module _ {d : Digraph} {f : ℕ → ℕ → Bool} {s : ℕ} {goal : Option ℕ} 
           let a = fresh_parts m (back f p) q o.here in
           record { state = t.state; from = t.here; free = a.0; node = o.below; step = back_step d f p q a.1; wide = wide; with_q = with_q }
 
+      -- What leads to the goal by the notes leads to it by what they are now.
+      as_noted : MatchOption goal ⊥ (λ t. Trail (residual d f) s t (set before q p)) → MatchOption goal ⊥ (λ t. Trail (residual d f) s t after)
+      as_noted = subst (λ (b : List ℕ). MatchOption goal ⊥ (λ t. Trail (residual d f) s t b)) (sym note)
+
       -- It is the goal, found along an arc with room.
-      pub found_along : Found (fresh m (along d f p)) v d.nodes q → is_goal goal q ≡ true → MatchOption goal ⊥ (λ t. Trail (residual d f) s t (set before q p))
-      found_along o g = goal_found (ahead_new {m' = λ k. m k || eqb k q} (λ k. refl) o) g
+      pub found_along : Found (fresh m (along d f p)) v d.nodes q → is_goal goal q ≡ true → MatchOption goal ⊥ (λ t. Trail (residual d f) s t after)
+      found_along o g = as_noted (goal_found (ahead_new {m' = λ k. m k || eqb k q} (λ k. refl) o) g)
 
       -- It is the goal, found back along the flow.
-      pub found_back : Found (fresh m (back f p)) w d.nodes q → is_goal goal q ≡ true → MatchOption goal ⊥ (λ t. Trail (residual d f) s t (set before q p))
-      found_back o g = goal_found (behind_new {m' = λ k. m k || eqb k q} (λ k. refl) o) g
+      pub found_back : Found (fresh m (back f p)) w d.nodes q → is_goal goal q ≡ true → MatchOption goal ⊥ (λ t. Trail (residual d f) s t after)
+      found_back o g = as_noted (goal_found (behind_new {m' = λ k. m k || eqb k q} (λ k. refl) o) g)
 
       -- There is room for it to wait, if it is found along an arc.
       pub roomy_along : Found (fresh m (along d f p)) v d.nodes q → length queue < d.nodes
@@ -159,24 +163,25 @@ module _ {d : Digraph} {f : ℕ → ℕ → Bool} {s : ℕ} {goal : Option ℕ} 
           (ng : is_goal goal q ≡ false) where
         -- The turn goes on, with what was passed.
         waits : {v' w' : ℕ} → Entry d f s goal (λ x. x ≡ p) queue m m' before p q → Passed m' (along d f p) v' → Passed m' (back f p) w'
-            → Turn d f s goal p v' w' queue' m' (set before q p) e
+            → Turn d f s goal p v' w' queue' m' after e
         waits {v'} {w'} new ahead behind =
-            subst (λ (z : List ℕ). Turn d f s goal p v' w' z m' (set before q p) e) (sym longer) (record {
+            subst (λ (b : List ℕ). Turn d f s goal p v' w' queue' m' b e) (sym note)
+            (subst (λ (z : List ℕ). Turn d f s goal p v' w' z m' (set before q p) e) (sym longer) (record {
               state = entered new ng;
               here = grown new p t.here;
               ahead = ahead;
               behind = behind;
               sum = omega (arith, t.sum, length-append queue (q ∷ []), fewer new);
-            })
+            }))
 
         -- It goes on behind q after an arc.
-        pub by_along : Found (fresh m (along d f p)) v d.nodes q → Turn d f s goal p (q + 1) w queue' m' (set before q p) e
+        pub by_along : Found (fresh m (along d f p)) v d.nodes q → Turn d f s goal p (q + 1) w queue' m' after e
         by_along o =
             let new = ahead_new with_q o in
             waits new (passed_more t.ahead o (grown new) (new_marked new)) (passed_kept t.behind (grown new))
 
         -- It goes on behind q after a step back.
-        pub by_back : Found (fresh m (back f p)) w d.nodes q → Turn d f s goal p v (q + 1) queue' m' (set before q p) e
+        pub by_back : Found (fresh m (back f p)) w d.nodes q → Turn d f s goal p v (q + 1) queue' m' after e
         by_back o =
             let new = behind_new with_q o in
             waits new (passed_kept t.ahead (grown new)) (passed_more t.behind o (grown new) (new_marked new))

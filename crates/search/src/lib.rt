@@ -12,13 +12,17 @@ ghost use Rattle.search.specs.Goals.{is_goal};
 ghost use Rattle.augment.specs.Trails.{Trail};
 
 mod line;
+mod slots;
 mod steps;
 mod waiting;
 
+use augment::Notes;
 use line::enter;
 use plan::Plan;
 use ring::Ring;
-use rows::marks::clear;
+use rows::flow::Arcs;
+use rows::marks::Marks;
+pub use slots::Slots;
 use steps::{next_along, next_back};
 pub use waiting::Waiting;
 
@@ -26,41 +30,37 @@ pub use waiting::Waiting;
 fn is_goal(goal: Option<u16>, q: u16) -> bool
     ensures { result ≡ is_goal goal q }
 {
-    match goal {
-        Some(t) => q == t,
-        None => false,
-    }
+    goal.is_some_and(|t| q == t)
 }
 
 // Marks what `from` reaches by residual steps: along an arc on which the flow leaves room, or
-// back along the flow. With a goal it leaves off there, and `before` leads back.
+// back along the flow. With a goal it leaves off there, and the notes lead back.
 pub fn search<P: Plan, E: Waiting>(
     plan: &mut P,
-    flow: &[u64],
-    marks: &mut [u64],
-    before: &mut [u16],
-    slots: &mut [E],
+    flow: &Arcs<'_>,
+    marks: &mut Marks,
+    notes: &mut Notes<'_>,
+    slots: &mut Slots<'_, E>,
     from: u16,
     goal: Option<u16>,
 ) -> bool
     requires start { from < (P.Plan.digraph plan.old).nodes }
     requires goal { IfSome goal (λ t. (t < (P.Plan.digraph plan.old).nodes) × (from ≢ t)) }
-    requires memory { (7 ≤ length marks.old) × ((402 ≤ length before.old) × (402 ≤ length slots.old)) }
     ensures same { plan.new ≡ plan.old }
-    ensures found { result ≡ true → MatchOption goal ⊥ (λ t. Trail (residual (P.Plan.digraph plan.old) (carried flow.now)) from t before.new) }
+    ensures found { result ≡ true → MatchOption goal ⊥ (λ t. Trail (residual (P.Plan.digraph plan.old) (carried flow.now)) from t notes.new.before.now) }
     ensures swept { result ≡ false → (q : ℕ) → marked marks.new q ≡ residual_side (P.Plan.digraph plan.old) (carried flow.now) from q }
     ensures missed { result ≡ false → IfSome goal (λ t. residual_side (P.Plan.digraph plan.old) (carried flow.now) from t ≡ false) }
 {
     let n = plan.node_count();
-    clear(marks);
-    let mut line = Ring::new(slots);
+    marks.clear();
+    let mut line = Ring::new(slots.cells);
     enter(marks, &mut line, from, from, true);
     let mut found = false;
     'search: while let Some(first) = line.pop() {
         let p = first.node();
         let mut ahead = 0;
         'along: while let Some(q) = next_along(plan, flow, marks, p, ahead, n) {
-            before[q as usize] = p;
+            notes.note(q, p);
             if is_goal(goal, q) {
                 found = true;
                 break 'search;
@@ -70,7 +70,7 @@ pub fn search<P: Plan, E: Waiting>(
         }
         let mut behind = 0;
         'back: while let Some(q) = next_back(flow, marks, p, behind, n) {
-            before[q as usize] = p;
+            notes.note(q, p);
             if is_goal(goal, q) {
                 found = true;
                 break 'search;

@@ -7,30 +7,30 @@ ghost use Rattle.rows.specs.Marks.{marked};
 ghost use Rattle.search.specs.Steps.{along, back, fresh};
 
 use plan::Plan;
-use rows::flow::{carries, next_tail};
-use rows::marks::{is_marked, next_unmarked};
+use rows::flow::Arcs;
+use rows::marks::Marks;
 
 // Whether the flow leaves room on the arc from p to q.
-fn has_room(flow: &[u64], p: u16, q: u16) -> bool
+fn has_room(flow: &Arcs<'_>, p: u16, q: u16) -> bool
     ensures { result ≡ not (carried flow.now p q) }
 {
-    !carries(flow, p, q)
+    !flow.carries(p, q)
 }
 
 // The lowest node above q and below n that is not marked.
-fn unmarked_above(marks: &[u64], q: u16, n: u16) -> Option<u16>
+fn unmarked_above(marks: &Marks, q: u16, n: u16) -> Option<u16>
     requires { (q < n) × (n ≤ 448) }
     ensures { result ≡ first (λ k. not (marked marks.now k)) (q + 1) (n - (q + 1)) }
 {
-    next_unmarked(marks, q + 1, n)
+    marks.next_unmarked(q + 1, n)
 }
 
 // The lowest node from w up that is not marked and to which an arc with room leads from p. Where
 // an arc leads to a marked node, the marked nodes above it are leapt over.
 pub(crate) fn next_along<P: Plan>(
     plan: &mut P,
-    flow: &[u64],
-    marks: &[u64],
+    flow: &Arcs<'_>,
+    marks: &Marks,
     p: u16,
     w: u16,
     n: u16,
@@ -41,15 +41,11 @@ pub(crate) fn next_along<P: Plan>(
 {
     let mut v = w;
     while let Some(q) = plan.next_arc(p, v) {
-        if is_marked(marks, q) {
-            let Some(u) = unmarked_above(marks, q, n) else {
-                return None;
-            };
-            v = u;
+        if marks.has(q) {
+            v = unmarked_above(marks, q, n)?;
+        } else if has_room(flow, p, q) {
+            return Some(q);
         } else {
-            if has_room(flow, p, q) {
-                return Some(q);
-            }
             v = q + 1;
         }
     }
@@ -58,22 +54,19 @@ pub(crate) fn next_along<P: Plan>(
 
 // The lowest node from w up and below n that is not marked and from which the flow leads to p.
 // Where the flow leads from a marked node, the marked nodes above it are leapt over.
-pub(crate) fn next_back(flow: &[u64], marks: &[u64], p: u16, w: u16, n: u16) -> Option<u16>
+pub(crate) fn next_back(flow: &Arcs<'_>, marks: &Marks, p: u16, w: u16, n: u16) -> Option<u16>
     requires { n ≤ 448 }
     ensures { result ≡ first (fresh (marked marks.now) (back (carried flow.now) p)) w (n - w) }
 {
     let mut v = w;
-    while let Some(q) = next_tail(flow, p, v) {
+    while let Some(q) = flow.next_tail(p, v) {
         if q >= n {
             return None;
         }
-        if !is_marked(marks, q) {
+        if !marks.has(q) {
             return Some(q);
         }
-        let Some(u) = unmarked_above(marks, q, n) else {
-            return None;
-        };
-        v = u;
+        v = unmarked_above(marks, q, n)?;
     }
     None
 }

@@ -1,14 +1,13 @@
 -- An input, line by line.
-use Rattle.std.proofs.Common.{◌≡◌, ℕ, zero, suc, ◌+◌, ◌-◌, ◌<◌, ◌≤◌, Bool, cond, List, [], ◌∷◌, length, get_or, take, drop, sym, refl, ap, ◌∙◌, ⊎_elim, arith, length-drop, get_or-drop}
-use Rattle.std.proofs.lemmas.List.{drop_all, drop-drop}
-use Rattle.std.proofs.lemmas.Bool.{cases_eq, eq-eqb, ne_eqb}
+use Rattle.std.proofs.Common.{◌≡◌, ℕ, zero, suc, ◌+◌, ◌<◌, ◌≤◌, Bool, cond, eqb, ltb, not, false, List, [], ◌∷◌, length, get_or, take, drop, Some, None, sym, refl, ap, ◌∙◌, ⊎_elim, arith, add-one}
+use Rattle.std.proofs.lemmas.Bool.{cases_eq, cases_Bool, eq-eqb, eqb-true, ltb-false, not-true}
+use Rattle.std.proofs.lemmas.List.{drop_all}
+use Rattle.std.specs.List.{position, position_or_len}
+use Rattle.std.proofs.lemmas.List.Quantifiers.{position-Some}
+use Rattle.std.proofs.lemmas.List.Sums.{prefix_len_passes}
 use Rattle.serve.specs.Lines.{newline, onto, lines}
 
--- No line is left at the end.
-pub lines_none : (xs : List ℕ) (at : ℕ) → length xs ≤ at → lines (drop at xs) ≡ []
-unfolding lines
-lines_none xs at h = ap lines (drop_all at xs h)
-
+-- A character alone on the last line.
 last_line : (c k : ℕ) (cs : List ℕ) → length cs ≡ 0 → onto c (lines cs) ≡ (c ∷ take k cs) ∷ lines (drop (suc k) cs)
 unfolding lines
 last_line c zero [] e = refl
@@ -16,26 +15,40 @@ last_line c (suc k) [] e = refl
 last_line c k (x ∷ xs) e = let z : ⊥ = omega arith in absurd z
 
 -- A first line that is ended at k, or that goes to the end.
-first_line : (xs : List ℕ) (k : ℕ) → 0 < length xs → k ≤ length xs → ((i : ℕ) → i < k → get_or xs i 0 ≡ newline → ⊥) → (k < length xs → get_or xs k 0 ≡ newline) → lines xs ≡ take k xs ∷ lines (drop (suc k) xs)
+first_line : (xs : List ℕ) (k : ℕ) → 0 < length xs → k ≤ length xs → ((i : ℕ) → i < k → eqb (get_or xs i 0) newline ≡ false) → (k < length xs → get_or xs k 0 ≡ newline) → lines xs ≡ take k xs ∷ lines (drop (suc k) xs)
 unfolding lines
 first_line [] k some h none here = let z : ⊥ = omega arith in absurd z
 first_line (c ∷ cs) zero some h none here =
     ap (λ (b : Bool). cond b ([] ∷ lines cs) (onto c (lines cs))) (eq-eqb c newline (here (omega arith)))
 first_line (c ∷ cs) (suc k) some h none here =
-    ap (λ (b : Bool). cond b ([] ∷ lines cs) (onto c (lines cs))) (ne_eqb c newline (none 0 (omega arith)))
+    ap (λ (b : Bool). cond b ([] ∷ lines cs) (onto c (lines cs))) (none 0 (omega arith))
     ∙ ⊎_elim
     (λ e. last_line c k cs e)
     (λ ne. ap (onto c) (first_line cs k (omega (arith, ne)) (omega arith) (λ i l. none (suc i) (omega arith)) (λ l. here (omega arith))))
     (cases_eq (length cs) 0)
 
--- The line from a place on, which ends at the first line end or at the end of the input.
-pub next_line : (xs : List ℕ) (at end : ℕ) → at < length xs → at ≤ end → end ≤ length xs → ((i : ℕ) → at ≤ i → i < end → get_or xs i 0 ≡ newline → ⊥) → (end < length xs → get_or xs end 0 ≡ newline)
-    → lines (drop at xs) ≡ take (end - at) (drop at xs) ∷ lines (drop (end + 1) xs)
-next_line xs at end some low high none here =
-    let size = length-drop at xs in
-    let e : at + (end - at) ≡ end = omega arith in
-    let f : at + suc (end - at) ≡ end + 1 = omega arith in
-    first_line (drop at xs) (end - at) (omega (arith, size)) (omega (arith, size))
-    (λ i l q. none (at + i) (omega arith) (omega arith) (sym (get_or-drop at xs i 0) ∙ q))
-    (λ l. get_or-drop at xs (end - at) 0 ∙ ap (λ (i : ℕ). get_or xs i 0) e ∙ here (omega (arith, size)))
-    ∙ ap (λ (ys : List ℕ). take (end - at) (drop at xs) ∷ lines ys) (drop-drop (suc (end - at)) at xs ∙ ap (λ (i : ℕ). drop i xs) f)
+-- No line is left at the end.
+pub lines_none : (xs : List ℕ) → length xs ≡ 0 → lines xs ≡ []
+unfolding lines
+lines_none [] h = refl
+lines_none (x ∷ xs) h = let z : ⊥ = omega arith in absurd z
+
+-- A line end at k ends the first line.
+pub ended : (xs : List ℕ) (k : ℕ) → position (λ c. eqb c newline) xs ≡ Some k → lines xs ≡ take k xs ∷ lines (drop (k + 1) xs)
+ended xs k e =
+    let f = position-Some (λ c. eqb c newline) xs k 0 e in
+    rw (add-one k) (first_line xs k (omega (arith, f.0)) (omega (arith, f.0)) f.2 (λ _. eqb-true (get_or xs k 0) newline f.1))
+
+-- With no line end, all of it is the last line.
+pub unended : (xs : List ℕ) → 0 < length xs → position (λ c. eqb c newline) xs ≡ None → lines xs ≡ take (length xs) xs ∷ lines (drop (length xs) xs)
+unended xs some e =
+    let stop = position_or_len (λ c. eqb c newline) xs in
+    ⊎_elim
+    (λ on. let f = rw on at e in cc)
+    (λ off.
+    let past = ltb-false stop (length xs) off in
+    first_line xs (length xs) some (omega arith)
+    (λ i l. not-true (eqb (get_or xs i 0) newline) (prefix_len_passes (λ c. not (eqb c newline)) xs i 0 (omega (arith, past))))
+    (λ l. let z : ⊥ = omega arith in absurd z)
+    ∙ ap (λ (ys : List ℕ). take (length xs) xs ∷ lines ys) (drop_all (suc (length xs)) xs (omega arith) ∙ sym (drop_all (length xs) xs (omega arith))))
+    (cases_Bool (ltb stop (length xs)))

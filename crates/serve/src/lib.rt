@@ -3,6 +3,7 @@
 #![tactic(auto)]
 
 mod line;
+mod lines;
 mod whole;
 
 pub use whole::serve;

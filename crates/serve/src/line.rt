@@ -1,33 +1,16 @@
-// Lines of an input, and the reply to one of them.
-ghost use Rattle.std.specs.Prelude.{◌≡◌, ℕ, ◌<◌, ◌≤◌, length, Ok, Err, MatchResult, ◌≢◌, slice_index};
+// The reply to a line of an input.
+ghost use Rattle.std.specs.Prelude.{◌≡◌, Ok, Err, MatchResult};
 ghost use Rattle.model.specs.Model.{Lent, unmade, made};
 ghost use Rattle.model.specs.Table.{reply};
 ghost use Rattle.model.specs.declared.call.Call.TheVariants.{Make};
 ghost use Rattle.frames.specs.Frames.{request};
 ghost use Rattle.session.specs.Kept.{model_of};
-ghost use Rattle.serve.specs.Lines.{newline};
 ghost use Rattle.serve.specs.Served.{RightLine, after_line};
 
 use frames::{SessionFault, read_call};
 use model::{Answer, Call, Refusal};
 use session::{Planner, perform};
 use store::{Editable, Map};
-
-// Where the line from a place on ends: at its line end, or at the end of the input.
-pub(crate) fn line_end(input: &[u8], from: usize) -> usize
-    requires { from ≤ length input.now }
-    ensures low { from ≤ result }
-    ensures high { result ≤ length input.now }
-    ensures none { (i : ℕ) → from ≤ i → i < result → slice_index input.now i ≢ newline }
-    ensures here { result < length input.now → slice_index input.now result ≡ newline }
-{
-    for i in from..input.len() {
-        if input[i] == 10 {
-            return i;
-        }
-    }
-    input.len()
-}
 
 // The reply to a line before an accepted make: the order that a make asks for, where it can
 // be made over the memory.

@@ -8,8 +8,23 @@ ghost use Rattle.model.specs.Model.{Lent, unmade, bare};
 ghost use Rattle.model.specs.Table.{reply, reply_on};
 ghost use Rattle.model.specs.declared.call.Call.TheVariants.{Make, Join, Part};
 ghost use Rattle.store.specs.Change.{after_join, after_part};
+ghost use Rattle.store.specs.Ends.{ends_reply};
 
 use model::{Refusal, Vertex};
+
+// Refuses u and v unless they are two vertices of a map of n vertices. Every edit asks this
+// first.
+pub fn check_ends(n: u16, u: Vertex, v: Vertex) -> Result<(), Refusal>
+    ensures { result ≡ ends_reply n u v }
+{
+    if u >= n || v >= n {
+        return Err(Refusal::NoVertex);
+    }
+    if u == v {
+        return Err(Refusal::SameVertex);
+    }
+    Ok(())
+}
 
 // A store of a map. A question is answered from the meaning alone and changes nothing; of a
 // number that is no vertex the answers are no, 0 and none. Questions take the store for

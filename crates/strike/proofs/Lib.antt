@@ -1,5 +1,4 @@
 pub mod Pairs
-pub mod Clears
 pub mod Walks
 pub mod Fresh
 pub mod Replies

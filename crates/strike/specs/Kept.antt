@@ -1,9 +1,9 @@
 -- The model that a strike layer keeps, over a store whose graph and capacity are given.
 --
---   noted                         the pairs that are struck
---   kept                          the model: the store's edges are laid, the noted ones struck
---   ends_reply, unstruck_reply    what is answered of two numbers before the store is asked
-use Rattle.std.specs.Prelude.{ℕ, cond, not, ◌&&◌, List, take, Ok, Err, ◌==◌, nat_lt}
+--   noted             the pairs that are struck
+--   kept              the model: the store's edges are laid, the noted ones struck
+--   unstruck_reply    what is answered of two numbers before the store is asked
+use Rattle.std.specs.Prelude.{ℕ, cond, not, ◌&&◌, List, Ok, Err, ◌==◌, nat_lt}
 use Rattle.graph.specs.Graph.{Graph}
 use Rattle.model.specs.Model.{Model}
 use Rattle.model.specs.Table.{Reply}
@@ -11,9 +11,9 @@ use Rattle.model.specs.declared.refusal.Refusal.TheVariants.{NoVertex, SameVerte
 use Rattle.strike.specs.Struck.{listed}
 use Rattle.strike.specs.declared.Strike.{Strike}
 
--- The pairs that are struck: only the counted ones of the list mean something.
+-- The pairs that are struck.
 abbrev pub noted : {S : Type 0} → Strike S → List (ℕ × ℕ)
-noted s = take s.marks.count s.marks.pairs
+noted s = s.marks.pairs.items
 
 -- What the store joins is laid, and what is noted is struck.
 abbrev pub kept : {S : Type 0} → (S → Graph) → (S → ℕ) → Strike S → Model
@@ -23,10 +23,6 @@ kept graph most s = record {
   laid = (graph s.store).joined;
   struck = listed (noted s);
 }
-
--- Whether two numbers are two vertices of a graph of that order.
-abbrev pub ends_reply : ℕ → ℕ → ℕ → Reply
-ends_reply order u v = cond (not (nat_lt u order && nat_lt v order)) (Err NoVertex) (cond (u == v) (Err SameVertex) (Ok tt))
 
 -- Whether two numbers are two vertices with no struck edge between them.
 abbrev pub unstruck_reply : ℕ → List (ℕ × ℕ) → ℕ → ℕ → Reply

@@ -4,16 +4,16 @@
 --   without           a graph without the listed edges
 --   listed_swap       what is listed has no direction
 --   without_simple    striking edges out leaves a simple graph simple
-use Rattle.std.specs.Prelude.{◌≡◌, ℕ, Bool, false, not, ◌&&◌, ◌||◌, List, [], ◌∷◌, refl}
+use Rattle.std.specs.Prelude.{◌≡◌, ℕ, Bool, not, ◌&&◌, ◌||◌, List, [], ◌∷◌, refl}
+use Rattle.std.specs.List.{list_any}
 use Rattle.std.proofs.Common.{ap₂}
 use Rattle.std.proofs.lemmas.Bool.{and_parts, and_right}
 use Rattle.graph.specs.Graph.{Graph, Simple, same_edge}
 use Rattle.graph.proofs.Edges.{same_edge_swap}
 
 -- Whether one of the pairs is the edge between u and v, in either order.
-unfoldable pub listed : List (ℕ × ℕ) → ℕ → ℕ → Bool
-listed [] u v = false
-listed (p ∷ ps) u v = same_edge p.0 p.1 u v || listed ps u v
+abbrev pub listed : List (ℕ × ℕ) → ℕ → ℕ → Bool
+listed ps u v = list_any (λ p. same_edge p.0 p.1 u v) ps
 
 -- The graph without the listed edges: a struck edge is not joined, whatever lies below.
 abbrev pub without : Graph → List (ℕ × ℕ) → Graph
@@ -21,7 +21,6 @@ without g ps = record { order = g.order; joined = λ u v. not (listed ps u v) &&
 
 -- What is listed has no direction.
 pub listed_swap : (ps : List (ℕ × ℕ)) (u v : ℕ) → listed ps u v ≡ listed ps v u
-unfolding listed
 listed_swap [] u v = refl
 listed_swap (p ∷ ps) u v = ap₂ (λ (x y : Bool). x || y) (same_edge_swap p.0 p.1 u v) (listed_swap ps u v)
 

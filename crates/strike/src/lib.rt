@@ -1,19 +1,19 @@
 // A layer over any store that strikes edges out, and lifts them again, without taking them up.
 #![tactic(auto)]
 
-ghost use Rattle.std.specs.Prelude.{◌≡◌, false, is_ok};
+ghost use Rattle.std.specs.Prelude.{◌≡◌, false, [], is_ok};
 ghost use Rattle.model.specs.Model.{made};
 ghost use Rattle.model.specs.Table.{nothing, reply_on};
 ghost use Rattle.model.specs.Law.{after};
 ghost use Rattle.model.specs.declared.call.Call.TheVariants.{Join, Part, Strike as StrikeCall, Lift};
 ghost use Rattle.strike.specs.Struck.{without, without_simple};
-ghost use Rattle.strike.specs.Kept.{noted, kept, ends_reply, unstruck_reply};
+ghost use Rattle.strike.specs.Kept.{noted, kept, unstruck_reply};
 
 mod marks;
 
 use marks::Marks;
 use model::{Refusal, Vertex};
-use store::{Editable, Map};
+use store::{Editable, Map, check_ends};
 
 // A store below, and the edges of it that are struck.
 #[derive(Drop)]
@@ -67,7 +67,7 @@ impl<S> Strike<S> {
     // The layer over a store, with nothing struck.
     pub fn over(store: S) -> Strike<S>
         ensures store { result.store ≡ store }
-        ensures none { result.marks.count ≡ 0 }
+        ensures none { noted result ≡ [] }
     {
         Strike {
             store,
@@ -87,27 +87,12 @@ impl<S: Editable> Strike<S> {
         self.store.capacity()
     }
 
-    // Refuses u and v unless they are two vertices.
-    fn check_ends(&mut self, u: Vertex, v: Vertex) -> Result<(), Refusal>
-        ensures reply { result ≡ ends_reply (S.Map.graph self.old.store).order u v }
-        ensures same { self.new ≡ self.old }
-    {
-        let n = self.store.order();
-        if u >= n || v >= n {
-            return Err(Refusal::NoVertex);
-        }
-        if u == v {
-            return Err(Refusal::SameVertex);
-        }
-        Ok(())
-    }
-
     // Refuses u and v unless they are two vertices and no edge between them is struck.
     fn check_unstruck(&mut self, u: Vertex, v: Vertex) -> Result<(), Refusal>
         ensures reply { result ≡ unstruck_reply (S.Map.graph self.old.store).order (noted self.old) u v }
         ensures same { self.new ≡ self.old }
     {
-        self.check_ends(u, v)?;
+        check_ends(self.store.order(), u, v)?;
         if self.marks.has(u, v) {
             return Err(Refusal::IsStruck);
         }
@@ -157,7 +142,7 @@ impl<S: Editable> Strike<S> {
         ensures after { made (kept S.Map.graph S.Editable.most self.new) ≡ after nothing (made (kept S.Map.graph S.Editable.most self.old)) (Lift u v) }
         ensures unchanged { is_ok result ≡ false → self.new ≡ self.old }
     {
-        self.check_ends(u, v)?;
+        check_ends(self.store.order(), u, v)?;
         if !self.marks.has(u, v) {
             return Err(Refusal::NotStruck);
         }

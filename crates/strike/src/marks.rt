@@ -1,105 +1,86 @@
 // The struck edges: up to 16 pairs of vertices, no edge twice.
-ghost use Rattle.std.specs.Prelude.{◌≡◌, ◌<◌, ◌≤◌, true, false, length, take, ◌≢◌, nat_le, slice_index_or};
+ghost use Rattle.std.specs.Prelude.{◌≡◌, ◌<◌, true, false, length, ◌≢◌, [], nat_le, position};
 ghost use Rattle.graph.specs.Graph.{order_limit, edges_below, same_edge, added, removed};
 ghost use Rattle.model.specs.Model.{strike_limit};
 ghost use Rattle.strike.specs.Struck.{listed};
 
+use arrayvec::ArrayVec;
 use model::Vertex;
 
 // How many edges may be struck at a time.
 const LIMIT: usize = 16;
 
-// Whether u and v are the ends of the edge between a and b, in either order.
-fn same_edge(a: Vertex, b: Vertex, u: Vertex, v: Vertex) -> bool
-    ensures { result ≡ same_edge a b u v }
+// Whether a pair is the edge between u and v, in either order.
+fn is_edge(pair: (Vertex, Vertex), u: Vertex, v: Vertex) -> bool
+    ensures { result ≡ same_edge pair.0 pair.1 u v }
 {
-    (a == u && b == v) || (a == v && b == u)
+    pair == (u, v) || pair == (v, u)
 }
 
 // Whether one of the pairs is the edge between u and v.
 fn is_listed(pairs: &[(Vertex, Vertex)], u: Vertex, v: Vertex) -> bool
     ensures { result ≡ listed pairs.now u v }
 {
-    for p in pairs {
-        if same_edge(p.0, p.1, u, v) {
-            return true;
-        }
-    }
-    false
+    pairs.iter().any(|p| is_edge(*p, u, v))
 }
 
-// The place of the edge between u and v, which is listed.
-fn find_pair(pairs: &[(Vertex, Vertex)], u: Vertex, v: Vertex) -> usize
-    requires { listed pairs.now u v ≡ true }
-    ensures within { result < length pairs.now }
-    ensures here { same_edge (slice_index_or pairs.now result (0, 0)).0 (slice_index_or pairs.now result (0, 0)).1 u v ≡ true }
+// The place of the first pair that is the edge between u and v, if one is.
+fn find_pair(pairs: &[(Vertex, Vertex)], u: Vertex, v: Vertex) -> Option<usize>
+    ensures { result ≡ position (λ p. same_edge p.0 p.1 u v) pairs.now }
 {
-    for (i, p) in pairs.iter().enumerate() {
-        if same_edge(p.0, p.1, u, v) {
-            return i;
-        }
-    }
-    unreachable()
+    pairs.iter().position(|p| is_edge(*p, u, v))
 }
 
-// Struck edges. The first `count` pairs are noted; `counted` says that they are as many
-// different edges, which is why a cleared edge is gone with its one pair.
+// Struck edges; `counted` says that they are as many different edges as pairs, which is why a
+// cleared edge is gone with its one pair.
 #[derive(Drop)]
 pub struct Marks {
-    count: usize,
-    pairs: [(Vertex, Vertex); LIMIT],
-    ghost few: { count ≤ strike_limit },
-    ghost counted: { edges_below order_limit (listed (take count pairs)) ≡ count },
+    pairs: ArrayVec<(Vertex, Vertex), LIMIT>,
+    ghost counted: { edges_below order_limit (listed pairs.items) ≡ length pairs.items },
 }
 
 impl Marks {
     // No edge noted.
     pub(crate) fn none() -> Marks
-        ensures { result.count ≡ 0 }
+        ensures { result.pairs.items ≡ [] }
     {
         Marks {
-            count: 0,
-            pairs: [(0, 0); LIMIT],
+            pairs: ArrayVec::new(),
         }
     }
 
     // Whether the edge between u and v is noted.
     pub(crate) fn has(&self, u: Vertex, v: Vertex) -> bool
-        ensures { result ≡ listed (take self.now.count self.now.pairs) u v }
+        ensures { result ≡ listed self.now.pairs.items u v }
     {
-        is_listed(&self.pairs[0..self.count], u, v)
+        is_listed(self.pairs.as_slice(), u, v)
     }
 
     // Whether as many edges are noted as may be.
     pub(crate) fn full(&self) -> bool
-        ensures value { result ≡ nat_le strike_limit (edges_below order_limit (listed (take self.now.count self.now.pairs))) }
-        ensures room { result ≡ false → self.now.count < strike_limit }
+        ensures value { result ≡ nat_le strike_limit (edges_below order_limit (listed self.now.pairs.items)) }
+        ensures room { result ≡ false → length self.now.pairs.items < strike_limit }
     {
-        self.count >= LIMIT
+        self.pairs.is_full()
     }
 
     // Notes the edge between u and v, which is not noted yet and for which there is room.
     pub(crate) fn note(&mut self, u: Vertex, v: Vertex)
         requires ends { (u < order_limit) × ((v < order_limit) × ((u ≢ v))) }
-        requires room { self.old.count < strike_limit }
-        requires fresh { listed (take self.old.count self.old.pairs) u v ≡ false }
-        ensures { listed (take self.new.count self.new.pairs) ≡ added (listed (take self.old.count self.old.pairs)) u v }
+        requires room { length self.old.pairs.items < strike_limit }
+        requires fresh { listed self.old.pairs.items u v ≡ false }
+        ensures { listed self.new.pairs.items ≡ added (listed self.old.pairs.items) u v }
     {
-        let count = self.count;
-        self.pairs[count] = (u, v);
-        self.count = count + 1;
+        self.pairs.push((u, v));
     }
 
     // Clears the edge between u and v, which is noted: the last pair takes its place.
     pub(crate) fn clear(&mut self, u: Vertex, v: Vertex)
         requires ends { (u < order_limit) × ((v < order_limit) × ((u ≢ v))) }
-        requires there { listed (take self.old.count self.old.pairs) u v ≡ true }
-        ensures { listed (take self.new.count self.new.pairs) ≡ removed (listed (take self.old.count self.old.pairs)) u v }
+        requires there { listed self.old.pairs.items u v ≡ true }
+        ensures { listed self.new.pairs.items ≡ removed (listed self.old.pairs.items) u v }
     {
-        let at = find_pair(&self.pairs[0..self.count], u, v);
-        let last = self.count - 1;
-        let moved = self.pairs[last];
-        self.pairs[at] = moved;
-        self.count = last;
+        let at = find_pair(self.pairs.as_slice(), u, v).unwrap();
+        self.pairs.swap_remove(at);
     }
 }

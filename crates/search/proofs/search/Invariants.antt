@@ -2,7 +2,6 @@
 -- out of a node are looked at, what held of it at the first still holds, and of all that they lead
 -- to so far. Each node that is taken from the line lowers what waits and what is not marked.
 use Rattle.std.proofs.Common.{◌≡◌, ◌+◌, ◌-◌, ◌≤◌, false, map, length}
-use Rattle.ring.specs.Held.{held, room}
 use Rattle.rows.specs.Flow.{carried}
 use Rattle.rows.specs.Marks.{marked}
 use Rattle.search.proofs.States.{State, Nobody, unmarked}
@@ -14,39 +13,39 @@ invariant-search g l =
     (l.plan ≡ l.initial.plan)
     × (l.found ≡ false)
     × (l.n ≡ (g.P.Plan.digraph l.plan).nodes)
-    × (402 ≤ room l.line)
+    × (402 ≤ l.line.room)
     × State (g.P.Plan.digraph l.initial.plan) (carried l.flow) l.from l.goal Nobody
-    (map g.E.Waiting.node (held l.line)) (marked l.marks) l.before
+    (map g.E.Waiting.node l.line.items) (marked l.marks) l.notes.before.now
 
 abbrev pub decreases-search : goal.decreases-search
-decreases-search g l = length (map g.E.Waiting.node (held l.line)) + unmarked (marked l.marks) l.n
+decreases-search g l = length (map g.E.Waiting.node l.line.items) + unmarked (marked l.marks) l.n
 
 abbrev pub invariant-along : goal.invariant-along
 invariant-along g l =
-    let first = map g.E.Waiting.node (held l.initial.line) in
+    let first = map g.E.Waiting.node l.initial.line.items in
     let e = length first + unmarked (marked l.initial.marks) l.n in
     (l.plan ≡ l.initial.plan)
     × (l.found ≡ false)
     × (l.n ≡ (g.P.Plan.digraph l.plan).nodes)
-    × (402 ≤ room l.line)
+    × (402 ≤ l.line.room)
     × (Turn (g.P.Plan.digraph l.initial.plan) (carried l.flow) l.from l.goal l.p 0 0
-    first (marked l.initial.marks) l.initial.before e
+    first (marked l.initial.marks) l.initial.notes.before.now e
     → Turn (g.P.Plan.digraph l.initial.plan) (carried l.flow) l.from l.goal l.p l.ahead 0
-    (map g.E.Waiting.node (held l.line)) (marked l.marks) l.before e)
+    (map g.E.Waiting.node l.line.items) (marked l.marks) l.notes.before.now e)
 
 abbrev pub decreases-along : goal.decreases-along
 decreases-along g l = l.n - l.ahead
 
 abbrev pub invariant-back : goal.invariant-back
 invariant-back g l =
-    let first = map g.E.Waiting.node (held l.initial.line) in
+    let first = map g.E.Waiting.node l.initial.line.items in
     let e = length first + unmarked (marked l.initial.marks) l.n in
     (l.found ≡ false)
-    × (402 ≤ room l.line)
+    × (402 ≤ l.line.room)
     × (Turn (g.P.Plan.digraph l.plan) (carried l.flow) l.from l.goal l.p l.n 0
-    first (marked l.initial.marks) l.initial.before e
+    first (marked l.initial.marks) l.initial.notes.before.now e
     → Turn (g.P.Plan.digraph l.plan) (carried l.flow) l.from l.goal l.p l.n l.behind
-    (map g.E.Waiting.node (held l.line)) (marked l.marks) l.before e)
+    (map g.E.Waiting.node l.line.items) (marked l.marks) l.notes.before.now e)
 
 abbrev pub decreases-back : goal.decreases-back
 decreases-back g l = l.n - l.behind

@@ -1,21 +1,19 @@
 -- An accepted question has two vertices, enough work memory, and room for every cut.
-use Rattle.std.proofs.Common.{sym, ap, ◌∙◌}
-use Rattle.connectivity.specs.Asking.{sizes_of, ends_reply}
-use Rattle.connectivity.proofs.Accepted.{for_steps, for_nodes, first_words, are_two, edge_room}
+use Rattle.std.proofs.Common.{◌-◌, sym, ap, ◌∙◌, arith, length-take}
+use Rattle.connectivity.specs.declared.work.Sizes.{Sizes}
+use Rattle.connectivity.specs.Asking.{ends_reply}
+use Rattle.connectivity.proofs.Accepted.{enough_words, edge_room}
 use Rattle.connectivity.proofs.pair.edge_cut_between.Goals as goal
 
-pub settle-requires : goal.settle-requires
-settle-requires g c =
+pub over-flow-requires : goal.over-flow-requires
+over-flow-requires g c =
+    let enough = enough_words c.sizes-sizes.result (g.M.Map.graph c.args.line.now.map) c.args.a c.args.b c.in_ok-check_ends.ensures.reply in
+    omega (arith, enough, ap (λ (s : Sizes). s.words) c.sizes-sizes.ensures, length-take (4096 - 0) c.args.work.words.now)
+
+pub settle-requires-clause-room : goal.settle-requires-clause-room
+settle-requires-clause-room g c =
     let m = c.check_ends.new.map in
-    let a = c.args.a in
-    let b = c.args.b in
-    let w = c.args.work in
-    let s = sizes_of w.words.now w.numbers.now w.nodes.now w.steps.now c.args.cut.now in
+    let s = c.sizes-sizes.result in
     let e = c.in_ok-check_ends.ensures in
-    let ok = e.reply ∙ ap (λ n. ends_reply s (g.M.Map.graph n) a b) (sym e.same) in
-    record {
-      asked = are_two s (g.M.Map.graph m) a b ok;
-      steps = first_words w.words.now _ _ (for_steps s (g.M.Map.graph m) a b ok);
-      nodes = first_words w.words.now _ _ (for_nodes s (g.M.Map.graph m) a b ok);
-      room = edge_room s (g.M.Map.graph m) a b ok (g.M.Map.simple m);
-    }
+    let ok = e.reply ∙ ap (λ n. ends_reply s (g.M.Map.graph n) c.args.a c.args.b) (sym e.same) in
+    omega (arith, edge_room s (g.M.Map.graph m) c.args.a c.args.b ok (g.M.Map.simple m), ap (λ (s : Sizes). s.cut) c.sizes-sizes.ensures)

@@ -15,14 +15,14 @@ loop-next-init g c =
       refl,
       ap (λ (r : Searching). r.from) e,
       ap (λ (r : Searching). r.to) e,
-      subst (λ (r : Searching). Held d r c.begin-run.new.words) (sym e) (c.begin-run.ensures.flow d),
+      subst (λ (r : Searching). Held d r c.begin-run.new.flow) (sym e) (c.begin-run.ensures.flow d),
     )
 
 pub loop-next-smaller : goal.loop-next-smaller
 loop-next-smaller g c =
     let d = g.P.Plan.digraph c.args.plan.now in
-    let next = c.in-More.next in
-    let after = c.in-More.ensures.after in
+    let next = c.in-Continue.next in
+    let after = c.in-Continue.ensures.after in
     let more : next.value ≡ c.loop-next.run.value + 1 = ap (λ (r : Searching). r.value) after.0 in
-    let held : Held d next c.push.new.words = subst (λ (e : Digraph). Held e next c.push.new.words) (ap g.P.Plan.digraph c.loop-next.invariant.0) after.1 in
-    omega (arith, more, value_most d next.from next.to (carried c.push.new.words) next.value held)
+    let held : Held d next c.push.new.flow = subst (λ (e : Digraph). Held e next c.push.new.flow) (ap g.P.Plan.digraph c.loop-next.invariant.0) after.1 in
+    omega (arith, more, value_most d next.from next.to (carried c.push.new.flow) next.value held)

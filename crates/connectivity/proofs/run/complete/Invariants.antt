@@ -1,4 +1,4 @@
--- Between pushes the words hold a flow of the run's value, which rises and never passes the
+-- Between pushes the memory holds a flow of the run's value, which rises and never passes the
 -- number of nodes.
 use Rattle.std.proofs.Common.{◌≡◌, ◌-◌}
 use Rattle.connectivity.specs.Runs.{Held}
@@ -9,7 +9,7 @@ invariant-loop-next g l =
     (l.plan ≡ l.initial.plan)
     × (l.run.from ≡ l.from)
     × (l.run.to ≡ l.to)
-    × Held (g.P.Plan.digraph l.initial.plan) l.run l.words
+    × Held (g.P.Plan.digraph l.initial.plan) l.run l.flow
 
 abbrev pub decreases-loop-next : goal.decreases-loop-next
 decreases-loop-next g l = (g.P.Plan.digraph l.initial.plan).nodes - l.run.value

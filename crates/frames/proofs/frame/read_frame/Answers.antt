@@ -1,5 +1,5 @@
 use Rattle.std.proofs.Common.{◌≤◌, length, sym, ◌∙◌, rules}
-use Rattle.frames.proofs.Opens.{kind_fits, frame_opened}
+use Rattle.frames.proofs.Opens.{kind_fits}
 use Rattle.frames.proofs.frame.read_frame.Goals as goal
 
 pub slice_bounds-result-count : goal.slice_bounds-result-count
@@ -9,9 +9,3 @@ pub slice_bounds-result-start : goal.slice_bounds-result-start
 slice_bounds-result-start c =
     let h : 2 ≤ length c.args.line.now = kind_fits c.args.line.now c.in_ok-kind.kind (sym c.frame_kind.ensures ∙ c.in_ok-kind.was) in
     search rules
-
-pub returns : goal.returns
-returns c =
-    frame_opened c.args.line.now c.in_ok-kind.kind
-    (sym c.check_digits.ensures ∙ c.in_ok-check_digits.was)
-    (sym c.frame_kind.ensures ∙ c.in_ok-kind.was)

@@ -6,28 +6,28 @@ use Rattle.search.proofs.steps.next_back.Goals as goal
 pub returns-then-q-n : goal.returns-then-q-n
 returns-then-q-n c = past c.loop-q.invariant (λ k h. h) (first_some _ _ 448 _ (sym c.in-Some.ensures)) c.if-q-n.true
 
-pub returns-then-not-is_marked : goal.returns-then-not-is_marked
-returns-then-not-is_marked c =
+pub returns-then-not-has : goal.returns-then-not-has
+returns-then-not-has c =
     let f = first_some _ _ 448 _ (sym c.in-Some.ensures) in
-    hit c.loop-q.invariant (λ k h. h) f c.if-q-n.false (sym c.is_marked.ensures ∙ c.if-not-is_marked.true) f.here
+    hit c.loop-q.invariant (λ k h. h) f c.if-q-n.false (sym c.has.ensures ∙ c.if-not-has.true) f.here
 
-pub returns-in_default-unmarked_above : goal.returns-in_default-unmarked_above
-returns-in_default-unmarked_above c =
+pub returns-in_err-v : goal.returns-in_err-v
+returns-in_err-v c =
     let f = first_some _ _ 448 _ (sym c.in-Some.ensures) in
-    let all = first_all _ _ _ (sym c.in_default-unmarked_above.ensures) in
-    leap_none c.loop-q.invariant (λ k h. h) f (sym c.is_marked.ensures ∙ c.if-not-is_marked.false) all
+    let all = first_all _ _ _ (sym c.in_err-v.ensures) in
+    c.from_residual.ensures ∙ leap_none c.loop-q.invariant (λ k h. h) f (sym c.has.ensures ∙ c.if-not-has.false) all
 
 pub loop-q-smaller : goal.loop-q-smaller
 loop-q-smaller c =
     let f = first_some _ _ 448 _ (sym c.in-Some.ensures) in
-    let u = first_some _ _ _ _ (sym c.in-Some-unmarked_above.ensures) in
+    let u = first_some _ _ _ _ (sym c.in_ok-v.ensures) in
     omega (arith, f.from, c.if-q-n.false, u.from)
 
 pub loop-q-preserved : goal.loop-q-preserved
 loop-q-preserved c =
     let f = first_some _ _ 448 _ (sym c.in-Some.ensures) in
-    let u = first_some _ _ _ _ (sym c.in-Some-unmarked_above.ensures) in
-    leap c.loop-q.invariant (λ k h. h) f (sym c.is_marked.ensures ∙ c.if-not-is_marked.false) u
+    let u = first_some _ _ _ _ (sym c.in_ok-v.ensures) in
+    leap c.loop-q.invariant (λ k h. h) f (sym c.has.ensures ∙ c.if-not-has.false) u
 
 pub returns : goal.returns
 returns c = none c.loop-q.invariant (λ k h. h) c.requires (first_all _ _ 448 (sym c.in_default.ensures))

@@ -11,7 +11,7 @@ returns g c =
     let p = c.args.plan.now in
     let run = c.args.self.now in
     let d = g.P.Plan.digraph p in
-    let f = carried c.args.words.now in
+    let f = carried c.args.flow.now in
     let side : marked c.mark_side.new.marks ≡ residual_side d f run.from = fun_ext c.mark_side.ensures.side in
     let told = g.met.P.CutPlan.told p run.from run.to f run.value c.requires.asked c.requires.largest.flow c.requires.largest.stuck in
     record {

@@ -1,6 +1,5 @@
 -- The path that was noted is read back, and pushing along it adds one.
-use Rattle.std.proofs.Common.{ℕ, ◌+◌, ◌<◌, Bool, List, take, All, sym, refl, ap, ◌∙◌, subst, arith, rules}
-use native.Mathlib.Nat.{sub-zero}
+use Rattle.std.proofs.Common.{ℕ, ◌+◌, ◌<◌, Bool, List, All, sym, refl, ap, ◌∙◌, subst, rules}
 use Rattle.flows.specs.Flow.{Flow, pushed}
 use Rattle.rows.specs.Flow.{carried}
 use Rattle.connectivity.proofs.Found.{read_nodes, read_adds}
@@ -12,13 +11,9 @@ augment-requires g c =
     let p = c.args.plan.now in
     let run = c.args.self.now in
     let ends = g.met.P.CutPlan.two p run.from run.to c.requires.asked in
-    let nodes = read_nodes (g.P.Plan.digraph p) run.from run.to (carried c.args.words.now) run.value (g.P.Plan.small p) (g.P.Plan.sound p)
-    c.requires.flow ends.0 c.seek.new.numbers (c.if-not-seek.ensures.noted refl) in
-    record {
-      room = omega (arith, c.requires.memory.words);
-      nodes = subst (λ (xs : List ℕ). All (λ x. x < 402) xs)
-          (sym c.trace-n.ensures.nodes ∙ ap (λ (k : ℕ). take k c.trace-n.new.path) (sym (sub-zero c.trace-n.result))) nodes;
-    }
+    let nodes = read_nodes (g.P.Plan.digraph p) run.from run.to (carried c.args.flow.now) run.value (g.P.Plan.small p) (g.P.Plan.sound p)
+    c.requires.flow ends.0 c.seek.new.scratch.notes.before.now (c.if-not-seek.ensures.noted refl) in
+    subst (λ (xs : List ℕ). All (λ x. x < 402) xs) (sym (c.as_slice.ensures.value ∙ c.trace-path.ensures)) nodes
 
 -- Pushing along it adds one.
 pub returns : goal.returns
@@ -26,14 +21,13 @@ returns g c =
     let p = c.args.plan.now in
     let run = c.args.self.now in
     let ends = g.met.P.CutPlan.two p run.from run.to c.requires.asked in
-    let f = carried c.args.words.now in
+    let f = carried c.args.flow.now in
     let adds = read_adds (g.P.Plan.digraph p) run.from run.to f run.value (g.P.Plan.small p) (g.P.Plan.sound p)
-    c.requires.flow ends.0 c.seek.new.numbers (c.if-not-seek.ensures.noted refl) ends.2 in
-    let traced = ap (λ (k : ℕ). take k c.trace-n.new.path) (sub-zero c.trace-n.result) ∙ c.trace-n.ensures.nodes in
+    c.requires.flow ends.0 c.seek.new.scratch.notes.before.now (c.if-not-seek.ensures.noted refl) ends.2 in
     record {
       same = c.seek.ensures.same;
       pushed = λ _. subst (λ (h : ℕ → ℕ → Bool). Flow (g.P.Plan.digraph p) run.from run.to h (run.value + 1))
-          (sym (c.augment.ensures ∙ ap (pushed f) traced)) adds;
+          (sym (c.augment.ensures.arcs ∙ ap (pushed f) (c.as_slice.ensures.value ∙ c.trace-path.ensures))) adds;
       kept = search rules;
       stuck = search rules;
     }

@@ -10,16 +10,17 @@ loop-v-init g c = (
   refl,
   omega arith,
   omega (arith, c.requires.within),
-  written_none c.args.cut.now c.args.k _ (row_start (g.M.Map.graph c.args.self.now.map) (marked c.args.marks.now) c.args.u),
+  refl,
+  written_none c.args.cut.now.slots.now c.args.cut.now.slots.now c.args.cut.now.len c.args.cut.now.len _ refl refl (row_start (g.M.Map.graph c.args.self.now.map) (marked c.args.marks.now) c.args.u),
 )
 
 -- Room for the row is room for each pair of it.
-pub keep-at-requires : goal.keep-at-requires
-keep-at-requires g c =
+pub extend-requires : goal.extend-requires
+extend-requires g c =
     row_room (g.M.Map.graph c.args.self.now.map) (g.M.Map.graph c.loop-v.self.map) (marked c.args.marks.now) c.args.u
-    c.loop-v.w c.args.n c.in-Some.v c.args.cut.now c.loop-v.cut c.args.k c.loop-v.at c.edge_at-item.result
+    c.loop-v.w c.args.n c.in-Some.v c.args.cut.now.slots.now c.loop-v.cut.slots.now c.args.cut.now.len c.loop-v.cut.len c.edge_at.result
     c.requires.order c.loop-v.invariant.1 (ap (λ (s : Line g.row.M.Denot). g.M.Map.graph s.map) c.loop-v.invariant.0)
-    c.requires.room c.loop-v.invariant.3 c.in-Some.ensures c.edge_at-item.ensures.value
+    c.requires.room c.loop-v.invariant.4 c.in-Some.ensures c.edge_at.ensures.value
 
 pub overflow_add-w-in-Some : goal.overflow_add-w-in-Some
 overflow_add-w-in-Some g c =
@@ -34,19 +35,20 @@ loop-v-smaller g c =
 pub loop-v-preserved : goal.loop-v-preserved
 loop-v-preserved g c =
     let f = other_found (marked c.args.marks.now) c.args.u c.loop-v.w c.args.n c.in-Some.v c.in-Some.ensures in (
-      c.edge_at-item.ensures.same ∙ c.loop-v.invariant.0,
+      c.edge_at.ensures.same ∙ c.loop-v.invariant.0,
       omega (arith, f.from, c.loop-v.invariant.1),
       omega (arith, f.below),
+      c.extend.ensures.same_reference ∙ c.loop-v.invariant.3,
       row_more (g.M.Map.graph c.args.self.now.map) (g.M.Map.graph c.loop-v.self.map) (marked c.args.marks.now) c.args.u
-          c.loop-v.w c.args.n c.in-Some.v c.args.cut.now c.loop-v.cut c.args.k c.loop-v.at c.edge_at-item.result
+          c.loop-v.w c.args.n c.in-Some.v c.args.cut.now.slots.now c.loop-v.cut.slots.now c.args.cut.now.len c.loop-v.cut.len c.edge_at.result
           c.requires.order c.loop-v.invariant.1 (ap (λ (s : Line g.row.M.Denot). g.M.Map.graph s.map) c.loop-v.invariant.0)
-          c.requires.room c.loop-v.invariant.3 c.in-Some.ensures c.edge_at-item.ensures.value
-          c.keep-at.new.buffer c.keep-at.result c.keep-at.ensures.next c.keep-at.ensures.items,
+          c.requires.room c.loop-v.invariant.4 c.in-Some.ensures c.edge_at.ensures.value
+          c.extend.new.self.slots.now c.extend.new.self.len c.extend.ensures.next c.extend.ensures.items,
     )
 
 pub returns : goal.returns
 returns g c =
     let m = g.M.Map.graph c.args.self.now.map in
     let all = row_all m (marked c.args.marks.now) c.args.u c.loop-v.w c.args.n c.requires.order c.loop-v.invariant.2 c.in_default.ensures in
-    let w = written_all c.args.cut.now c.loop-v.cut _ _ all c.args.k c.loop-v.at c.loop-v.invariant.3 in
-    record { next = w.0; items = w.1; same = c.loop-v.invariant.0 }
+    let w = written_all c.args.cut.now.slots.now c.loop-v.cut.slots.now _ _ all c.args.cut.now.len c.loop-v.cut.len c.loop-v.invariant.4 in
+    record { next = w.0; items = w.1; same = c.loop-v.invariant.0; same_reference = c.loop-v.invariant.3 }

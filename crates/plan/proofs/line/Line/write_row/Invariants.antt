@@ -10,7 +10,8 @@ invariant-loop-v g l =
     (l.self ≡ l.initial.self)
     × (l.u < l.w)
     × (l.w ≤ l.n)
-    × Written l.initial.cut l.cut l.k l.at (gathered (row_at (g.M.Map.graph l.initial.self.map) (marked l.marks) l.u) l.w)
+    × (l.cut.slots.ghost_name ≡ l.initial.cut.slots.ghost_name)
+    × Written l.initial.cut.slots.now l.cut.slots.now l.initial.cut.len l.cut.len (gathered (row_at (g.M.Map.graph l.initial.self.map) (marked l.marks) l.u) l.w)
 
 abbrev pub decreases-loop-v : goal.decreases-loop-v
 decreases-loop-v g l = l.n - l.w

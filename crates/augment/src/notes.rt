@@ -1,0 +1,73 @@
+// At each node that a search reaches, the node that it came from is noted; the route to a node is
+// read back from the notes.
+ghost use Rattle.std.specs.Prelude.{◌≡◌, ◌<◌, ◌≤◌, length, slice_index, slice_set};
+ghost use Rattle.augment.specs.Trails.{walk_back, route_back, ReadBack};
+
+use arrayvec::ArrayVec;
+
+// A route has no node twice, and a search has at most so many nodes.
+const MOST_NODES: usize = 402;
+
+// The notes, in lent numbers: number q is the node from which q was reached.
+#[derive(Drop)]
+pub struct Notes<'a> {
+    before: &'a mut [u16],
+    ghost fits: { 402 ≤ length before.now },
+}
+
+impl<'a> Notes<'a> {
+    // Notes that stand in the lent numbers already.
+    pub fn over(before: &'a mut [u16]) -> Notes<'a>
+        requires { 402 ≤ length before.old }
+        ensures notes { result.before.now ≡ before.old }
+        ensures same_reference { result.before.ghost_name ≡ before.entry.ghost_name }
+    {
+        Notes { before }
+    }
+
+    // Notes that q was reached from p.
+    pub fn note(&mut self, q: u16, p: u16)
+        requires { q < 402 }
+        ensures notes { self.new.before.now ≡ slice_set self.old.before.now q p }
+        ensures same_reference { self.new.before.ghost_name ≡ self.old.before.ghost_name }
+    {
+        self.before[q as usize] = p;
+    }
+
+    // The node noted at x, 0 past the notes.
+    fn noted(&self, x: u16) -> u16
+        ensures { result ≡ slice_index self.now.before.now x }
+    {
+        self.before.get(x as usize).copied().unwrap_or(0)
+    }
+
+    // The nodes from `to` back to `from`.
+    fn walk_back(&self, from: u16, to: u16) -> ArrayVec<u16, MOST_NODES>
+        ensures { result.items ≡ walk_back self.now.before.now from to 402 }
+    {
+        let mut path = ArrayVec::new();
+        let mut at = to;
+        for _ in 0..MOST_NODES {
+            path.push(at);
+            if at == from {
+                break;
+            }
+            at = self.noted(at);
+        }
+        path
+    }
+
+    // The route from `from` to `to`.
+    pub fn trace(&self, from: u16, to: u16) -> ArrayVec<u16, MOST_NODES>
+        ensures { result.items ≡ route_back self.now.before.now from to 402 }
+    {
+        let mut path = self.walk_back(from, to);
+        path.as_mut_slice().reverse();
+        path
+    }
+}
+
+// What a trail noted is enough to read it back.
+pub fn read_back()
+    ensures { ReadBack }
+{}

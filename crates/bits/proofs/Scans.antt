@@ -1,0 +1,46 @@
+-- The lowest number that is in a set, or is not, looked for word by word.
+use Rattle.std.proofs.Common.{◌≡◌, ℕ, ◌+◌, ◌-◌, ◌*◌, ◌/◌, ◌%◌, ◌<◌, ◌≤◌, Bool, false, cond, not, List, get_or, Some, None, sym, ap, ◌∙◌, ap₂, ⊎_elim, arith}
+use Rattle.std.proofs.lemmas.Bool.{cases_lt}
+use Rattle.graph.specs.Graph.{first}
+use Rattle.graph.proofs.Firsts.{first_found, first_some, first_all}
+use Rattle.bits.specs.Bits.{bit, has}
+
+-- Number 64 i + j is bit j of word i.
+pub word_at : (words : List ℕ) (i j : ℕ) → j < 64 → has words 0 (64 * i + j) ≡ bit (get_or words i 0) j
+word_at words i j h =
+    let a : 0 + (64 * i + j) / 64 ≡ i = omega arith in
+    let b : (64 * i + j) % 64 ≡ j = omega arith in
+    ap₂ (λ (x y : ℕ). bit (get_or words x 0) y) a b
+
+-- Whether a number is in the set, or is not.
+abbrev pub looked_for : Bool → List ℕ → ℕ → Bool
+looked_for on words k = cond on (has words 0 k) (not (has words 0 k))
+
+-- Word i of n, looked through from where w stands in it, at s: y has the bits that are looked for, and
+-- the words before have none from w up.
+module _ (words : List ℕ) (on : Bool) (w i n y s : ℕ) (low : w / 64 ≤ i) (high : i < n)
+    (bits : (j : ℕ) → j < 64 → bit y j ≡ cond on (bit (get_or words i 0) j) (not (bit (get_or words i 0) j))) (start : s ≡ w - 64 * i)
+    (before : (k : ℕ) → w ≤ k → k < 64 * i → looked_for on words k ≡ false) where
+  -- The bits of y are those of the set.
+  says : (j : ℕ) → j < 64 → looked_for on words (64 * i + j) ≡ bit y j
+  says j l = ap (λ (b : Bool). cond on b (not b)) (word_at words i j l) ∙ sym (bits j l)
+
+  -- Nothing is found in the words before and in the first e bits of this one.
+  seen : (e : ℕ) → e ≤ 64 → ((j : ℕ) → s ≤ j → j < e → bit y j ≡ false) → (k : ℕ) → w ≤ k → k < 64 * i + e → looked_for on words k ≡ false
+  seen e le none k a b =
+      ⊎_elim (λ h. before k a h)
+      (λ h. let q : 64 * i + (k - 64 * i) ≡ k = omega arith in
+      ap (looked_for on words) (sym q) ∙ says (k - 64 * i) (omega arith) ∙ none (k - 64 * i) (omega arith) (omega arith))
+      (cases_lt k (64 * i))
+
+  -- What the word has is the lowest of the set.
+  pub in_word : (j : ℕ) → Some j ≡ first (bit y) s (64 - s) → (j < 64) × (Some (64 * i + j) ≡ first (looked_for on words) w (64 * n - w))
+  in_word j e =
+      let f = first_some (bit y) s 64 j (sym e) in
+      let a = f.from in
+      let b = f.below in
+      (b, first_found (looked_for on words) w (64 * i + j) (64 * n) (omega arith) (omega arith) (seen j (omega arith) f.none) (says j b ∙ f.here))
+
+  -- Where the word has none, the search goes on past it.
+  pub past_word : None ≡ first (bit y) s (64 - s) → (k : ℕ) → w ≤ k → k < 64 * (i + 1) → looked_for on words k ≡ false
+  past_word e k a b = seen 64 (omega arith) (first_all (bit y) s 64 (sym e)) k a (omega arith)

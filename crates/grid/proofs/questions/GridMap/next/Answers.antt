@@ -1,0 +1,7 @@
+use Rattle.grid.specs.Meaning.{graph_of}
+use Rattle.grid.proofs.Spans.{outside_next}
+use Rattle.grid.proofs.Whole.{simple_of}
+use Rattle.grid.proofs.questions.GridMap.next.Goals as goal
+
+pub returns-else-u-self-clause-value : goal.returns-else-u-self-clause-value
+returns-else-u-self-clause-value c = let s = c.args.self.now in outside_next (graph_of s) (simple_of s) c.args.u c.args.w c.if-u-self.false

@@ -1,0 +1,74 @@
+// What a grid is asked. A question passes the whole grid on for writing, to a method that lends
+// one row of its words on for reading and promises that nothing changed.
+ghost use Rattle.std.specs.Prelude.{◌≡◌, ◌+◌, ◌*◌, ◌<◌, slice_range};
+ghost use Rattle.graph.specs.Graph.{degree, next};
+ghost use Rattle.grid.specs.Meaning.{graph_of};
+
+use crate::Grid;
+use crate::rows::row_count;
+use model::Vertex;
+use store::Map;
+
+impl<'a> Grid<'a> {
+    // The row of a vertex.
+    fn row(&self, u: Vertex) -> &[u64]
+        requires { u < self.now.n }
+        ensures { result.now ≡ slice_range self.now.words.now (4 * u) (4 * u + 4) }
+    {
+        let at = 4 * u as usize;
+        &self.words[at..at + 4]
+    }
+
+    // Whether an edge joins two vertices: one bit.
+    pub(crate) fn has(&mut self, u: Vertex, v: Vertex) -> bool
+        requires { (u < self.old.n) × (v < self.old.n) }
+        ensures value { result ≡ (graph_of self.old).joined u v }
+        ensures same { self.new ≡ self.old }
+    {
+        bits::has(self.row(u), v)
+    }
+
+    // The number of neighbours of a vertex: as many as its row has bits.
+    fn count(&mut self, u: Vertex) -> u16
+        requires { u < self.old.n }
+        ensures value { result ≡ degree (graph_of self.old) u }
+        ensures same { self.new ≡ self.old }
+    {
+        row_count(self.row(u))
+    }
+
+    // The lowest neighbour of a vertex that is w or more: the lowest bit of its row from w up.
+    fn lowest(&mut self, u: Vertex, w: Vertex) -> Option<Vertex>
+        requires { u < self.old.n }
+        ensures value { result ≡ next (graph_of self.old) u w }
+        ensures same { self.new ≡ self.old }
+    {
+        bits::next(self.row(u), true, w)
+    }
+}
+
+impl<'a> Map for Grid<'a> {
+    ghost graph = { graph_of };
+
+    ghost simple = { λ m. record { some = m.some; small = m.small; symmetric = m.even; irreflexive = m.loose; bounded = m.within } };
+
+    // The number of vertices.
+    fn order(&mut self) -> u16 {
+        self.n
+    }
+
+    // No bit stands for a number that is no vertex.
+    fn joined(&mut self, u: Vertex, v: Vertex) -> bool {
+        u < self.n && v < self.n && self.has(u, v)
+    }
+
+    // What is no vertex has no neighbours.
+    fn degree(&mut self, u: Vertex) -> u16 {
+        if u < self.n { self.count(u) } else { 0 }
+    }
+
+    // Nor has it a lowest one.
+    fn next(&mut self, u: Vertex, w: Vertex) -> Option<Vertex> {
+        if u < self.n { self.lowest(u, w) } else { None }
+    }
+}
