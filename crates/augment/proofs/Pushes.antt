@@ -1,5 +1,5 @@
 -- A flow pushed along a list of nodes, one step after another from its front.
-use Rattle.std.proofs.Common.{◌≡◌, ℕ, ◌<◌, ◌≤◌, Bool, List, [], ◌∷◌, length, get_or, take, drop, All, refl, ap, arith}
+use Rattle.std.proofs.Common.{◌≡◌, ℕ, ◌<◌, ◌≤◌, Bool, List, [], ◌∷◌, length, get_or, take, drop, All, refl, arith}
 use Rattle.std.proofs.lemmas.List.Elements.{All-head, All-tail}
 use Rattle.flows.specs.Flow.{stepped, pushed}
 
@@ -9,7 +9,7 @@ pub pushed_step : (f : ℕ → ℕ → Bool) (xs w : List ℕ) → 2 ≤ length 
 unfolding pushed
 pushed_step f [] w h e = absurd (omega arith)
 pushed_step f (p ∷ []) w h e = absurd (omega arith)
-pushed_step f (p ∷ (q ∷ xs)) w h e = ap (λ (v : List ℕ). pushed (stepped f (get_or v 0 0) (get_or v 1 0)) (q ∷ xs)) e
+pushed_step f (p ∷ (q ∷ xs)) w h e = rw e
 
 -- Along less than two nodes nothing is pushed.
 pub pushed_none : (f : ℕ → ℕ → Bool) (xs : List ℕ) → length xs < 2 → pushed f xs ≡ f

@@ -1,8 +1,8 @@
 -- A trail is read back from what it noted.
-use Rattle.std.proofs.Common.{◌≡◌, ℕ, zero, suc, ◌<◌, ◌≤◌, Bool, false, eqb, List, [], ◌∷◌, ◌++◌, reverse, length, get_or, All, sym, refl, ap, ◌∙◌, arith}
+use Rattle.std.proofs.Common.{◌≡◌, ℕ, zero, suc, ◌-◌, ◌<◌, ◌≤◌, Bool, false, eqb, List, [], ◌∷◌, ◌++◌, reverse, length, get_or, All, sym, refl, ap, ◌∙◌, arith}
 use mathlib.Core.List.{reverse-cons}
-use Rattle.std.proofs.lemmas.List.{reverse-reverse, length-reverse}
-use Rattle.std.proofs.lemmas.List.Elements.{All-nil, All-cons, All-head, All-tail, All-push}
+use Rattle.std.proofs.lemmas.List.{reverse-reverse, length-reverse, get_or-reverse}
+use Rattle.std.proofs.lemmas.List.Elements.{All-nil, All-cons, All-head, All-tail}
 use Rattle.std.proofs.lemmas.Bool.{ne_eqb}
 use Rattle.graph.specs.Graph.{count}
 use Rattle.graph.proofs.Counts.{count_most, count_one}
@@ -21,9 +21,9 @@ LeadsBack before s t (x ∷ (y ∷ xs)) = (x ≡ t) × (x ≡ s → ⊥) × Lead
 -- Such a list is what is read.
 read : (before : List ℕ) (s t n : ℕ) (xs : List ℕ) → LeadsBack before s t xs → length xs ≤ n → xs ≡ walk_back before s t n
 read before s t n [] w h = absurd w
-read before s t zero (x ∷ []) w h = let z : ⊥ = omega arith in absurd z
-read before s t (suc n) (x ∷ []) w h = sym (back_last before s x n w.1) ∙ ap (λ (z : ℕ). walk_back before s z (suc n)) w.0
-read before s t zero (x ∷ (y ∷ xs)) w h = let z : ⊥ = omega arith in absurd z
+read before s t zero (x ∷ []) w h = absurd (omega arith)
+read before s t (suc n) (x ∷ []) w h = let last = back_last before s x n w.1 in rw (← w.0, last)
+read before s t zero (x ∷ (y ∷ xs)) w h = absurd (omega arith)
 read before s t (suc n) (x ∷ (y ∷ xs)) w h =
     ap (λ (ys : List ℕ). x ∷ ys) (read before s (get_or before x 0) n (y ∷ xs) w.2 (omega arith))
     ∙ sym (back_next before s x n w.1)
@@ -42,8 +42,9 @@ leads_on before y x t (z ∷ (v ∷ xs)) w e o = (
 
 -- What holds of each item holds of each item of the list turned round.
 all_reverse : {X : Type 0} (P : X → Type 0) (xs : List X) → All P xs → All P (reverse xs)
-all_reverse P [] h = All-nil P
-all_reverse P (x ∷ xs) h = rw (reverse-cons x xs) (All-push P (reverse xs) x (all_reverse P xs (All-tail P x xs h)) (All-head P x xs h))
+all_reverse P xs h k d l =
+    let m : k < length xs = rw length-reverse at l in
+    rw get_or-reverse (h (length xs - 1 - k) d (omega arith))
 
 -- A number that does not stand in a list is none of its items.
 none_same : (xs : List ℕ) (x : ℕ) → among xs x ≡ false → All (λ z. z ≡ x → ⊥) xs

@@ -8,7 +8,7 @@ use Rattle.std.specs.Prelude.{◌≡◌, ℕ, ◌+◌, ◌/◌, ◌%◌, ◌^◌
 unfoldable pub bit : ℕ → ℕ → Bool
 bit x k = x / 2 ^ k % 2 == 1
 
--- Bit v of the row that begins at the word `base`.
+-- Bit v of the words from `base` on.
 abbrev pub has : List ℕ → ℕ → ℕ → Bool
 has words base v = bit (slice_index words (base + v / 64)) (v % 64)
 

@@ -6,7 +6,7 @@ ghost use Rattle.std.specs.Prelude.{◌≡◌, ℕ, ◌-◌, ◌*◌, ◌/◌, �
 ghost use Rattle.graph.specs.Graph.{first};
 ghost use Rattle.bits.specs.Bits.{bit, has, Written};
 
-// How many bits a word has.
+// How many bits a word has. Bounds by it are asked of plain numbers, and indices widen by `as`.
 const WORD_BITS: u16 = 64;
 
 // Whether bit k of a word is set.
@@ -43,11 +43,7 @@ fn word_next(word: u64, k: u16) -> Option<u16>
     ensures { result ≡ first (bit word) k (64 - k) }
 {
     let rest = word >> k;
-    if rest == 0 {
-        None
-    } else {
-        Some(k + rest.trailing_zeros() as u16)
-    }
+    (rest != 0).then_some(k + rest.trailing_zeros() as u16)
 }
 
 // Whether number k is in the set; what is past the words is not.
@@ -72,6 +68,7 @@ pub fn set(words: &mut [u64], k: u16, on: bool)
 }
 
 // The lowest number from w up that is in the set, or that is not, among those that the words hold.
+// The loop goes by the number of a word, which the answer is made of.
 pub fn next(words: &[u64], on: bool, w: u16) -> Option<u16>
     requires { length words.now < 1024 }
     ensures { result ≡ first (λ k. (if on then has words.now 0 k else not (has words.now 0 k))) w (64 * length words.now - w) }

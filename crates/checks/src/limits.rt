@@ -36,7 +36,7 @@ fn seventeenth_strike(rt: HostRuntime) -> Result<(), Fail> {
     check(&answers[93..] == b"82\n84\n82\nFF090300230000\n".as_slice())
 }
 
-// The vertices 0 and v in hexadecimal, and a line end.
+// The vertices 0 and v in hexadecimal, and a line end: digits by a table, as the format has them.
 fn push_pair(out: &mut Vec<u8>, v: u8) -> Result<(), Fail> {
     let digits = b"0123456789abcdef";
     out.extend_from_slice(b"00")?;

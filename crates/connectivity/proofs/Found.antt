@@ -4,7 +4,7 @@
 --   read_nodes    what is read back from the notes are nodes
 --   read_adds     pushing along what is read back adds one to the flow
 --   value_most    a flow's value is at most the number of nodes
-use Rattle.std.proofs.Common.{◌≡◌, ℕ, ◌+◌, ◌<◌, ◌≤◌, Bool, true, List, [], ◌∷◌, All, sym, subst, arith}
+use Rattle.std.proofs.Common.{◌≡◌, ℕ, ◌+◌, ◌<◌, ◌≤◌, Bool, true, List, [], ◌∷◌, All, subst, arith}
 use Rattle.std.proofs.lemmas.List.Elements.{All-nil, All-cons}
 use Rattle.graph.proofs.Counts.{count_most}
 use Rattle.flows.specs.Routes.{Walk}
@@ -21,21 +21,16 @@ value_most d s t f v fl = omega (arith, fl.value, count_most (λ q. f s q) d.nod
 -- Steps that stay below n make walks that do.
 inside : (r : ℕ → ℕ → Bool) (n : ℕ) → ((p q : ℕ) → r p q ≡ true → q < n) → (a b : ℕ) (xs : List ℕ) → a < n → Walk r a b xs → All (λ x. x < n) xs
 inside r n stays a b [] h w = absurd w
-inside r n stays a b (x ∷ []) h w = All-cons (λ z. z < n) x [] (subst (λ (z : ℕ). z < n) (sym w.0) h) (All-nil (λ z. z < n))
+inside r n stays a b (x ∷ []) h w = All-cons (λ z. z < n) x [] (rw w.0 h) (All-nil (λ z. z < n))
 inside r n stays a b (x ∷ (y ∷ xs)) h w =
-    All-cons (λ z. z < n) x (y ∷ xs) (subst (λ (z : ℕ). z < n) (sym w.0) h) (inside r n stays y b (y ∷ xs) (stays x y w.1) w.2)
-
--- What is below a limit is below a larger one.
-all_below : (m n : ℕ) (xs : List ℕ) → m ≤ n → All (λ x. x < m) xs → All (λ x. x < n) xs
-all_below m n xs h a k d l = omega (arith, a k d l)
+    All-cons (λ z. z < n) x (y ∷ xs) (rw w.0 h) (inside r n stays y b (y ∷ xs) (stays x y w.1) w.2)
 
 module _ (d : Digraph) (s t : ℕ) (f : ℕ → ℕ → Bool) (v : ℕ) (small : d.nodes ≤ 402) (sound : Sound d) (fl : Flow d s t f v) (hs : s < d.nodes)
     (before : List ℕ) (trail : Trail (residual d f) s t before) where
   -- The nodes of a trail are among the nodes.
   trail_nodes : All (λ x. x < 402) trail.nodes
-  trail_nodes =
-      all_below d.nodes 402 trail.nodes small
-      (inside (residual d f) d.nodes (λ p q e. (residual_ranged d f sound fl.along p q e).1) s t trail.nodes hs trail.route.walk)
+  trail_nodes k z l =
+      omega (arith, small, inside (residual d f) d.nodes (λ p q e. (residual_ranged d f sound fl.along p q e).1) s t trail.nodes hs trail.route.walk k z l)
 
   -- What is read back is the trail.
   read : trail.nodes ≡ route_back before s t 402

@@ -20,7 +20,8 @@ abbrev pub sizes_of : {S C : Type 0} → List ℕ → List ℕ → List ℕ → 
 sizes_of words numbers nodes steps cut =
     record { words = length words; numbers = length numbers; nodes = length nodes; steps = length steps; cut = length cut }
 
--- The smallest number that fits: memory, then no vertices, then one vertex twice.
+-- The smallest number that fits: memory, then no vertices, then one vertex twice. Written out and not
+-- by the store's two rows, so that the order stands in one place.
 abbrev pub ends_reply : Sizes → Graph → ℕ → ℕ → Reply
 ends_reply s g a b =
     cond (short s g.order) (Err ShortMemory)

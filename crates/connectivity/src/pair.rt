@@ -5,11 +5,10 @@ ghost use Rattle.plan.specs.Buffers.{in_front};
 ghost use Rattle.connectivity.specs.Asking.{sizes_of, ends_reply, loose_reply, edge_reply, vertex_reply, cut_in};
 
 use crate::run::{RunCount, complete};
-use crate::work::{Scratch, Sizes, WORDS, Work};
+use crate::work::{FlowMemory, Scratch, Sizes, WORDS, Work};
 use cuts::Edge;
 use model::{Refusal, Vertex};
 use plan::{CutPlan, Line, Split};
-use rows::flow::Arcs;
 use store::Map;
 
 // Refuses a and b unless enough memory is lent and they are two vertices.
@@ -41,7 +40,7 @@ fn settle<P: CutPlan>(
     plan: &mut P,
     a: u16,
     b: u16,
-    flow: &mut Arcs<'_>,
+    flow: &mut FlowMemory<'_>,
     scratch: &mut Scratch<'_, '_, '_>,
     cut: &mut [P::Item],
 ) -> u16
@@ -58,7 +57,10 @@ fn settle<P: CutPlan>(
 }
 
 // The edge value of a and b, with their nearest edge cut in front of the buffer, or why it can't
-// be had. A refused question leaves everything as it was, the work memory too.
+// be had. A refused question leaves everything as it was, the work memory too. The two questions
+// differ in what they refuse and in the ends that the second sets; all else is `settle`. What a
+// refusal leaves of the lent memory (`unchanged`) is said part by part, as the language has it, and the
+// memory is taken apart here, since a struct of lent slices can't be handed on whole.
 pub fn edge_cut_between<M: Map>(
     line: &mut Line<M>,
     a: Vertex,
@@ -79,7 +81,7 @@ pub fn edge_cut_between<M: Map>(
         nodes,
         steps,
     } = work;
-    let mut flow = Arcs::over(&mut words[0..WORDS]);
+    let mut flow = FlowMemory::over(&mut words[0..WORDS]);
     let mut scratch = Scratch::over(numbers, nodes, steps);
     Ok(settle(line, a, b, &mut flow, &mut scratch, cut))
 }
@@ -108,7 +110,7 @@ pub fn vertex_cut_between<M: Map>(
         nodes,
         steps,
     } = work;
-    let mut flow = Arcs::over(&mut words[0..WORDS]);
+    let mut flow = FlowMemory::over(&mut words[0..WORDS]);
     let mut scratch = Scratch::over(numbers, nodes, steps);
     Ok(settle(split, a, b, &mut flow, &mut scratch, cut))
 }

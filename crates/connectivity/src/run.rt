@@ -1,7 +1,9 @@
 // Runs: the most paths from one node to another that share no arc, found one by one. A searching
 // run can only be pushed, a finished one can only be read: two types, and a push takes the one
-// and gives one of the two. Both are plain numbers; the flow lies in memory that is lent at each
-// call.
+// and gives one of the two. Both are plain numbers; plan and flow are lent at each call, so what a
+// run is to its plan (`asked`) and to its flow (`Held`, `Largest`) is asked at each call too, and can't
+// be a fact of its type. Flow and scratch memory go side by side, since a finished run takes the flow
+// for reading only.
 ghost use Rattle.std.specs.Prelude.{◌≡◌, ℕ, ◌+◌, ◌<◌, ◌≤◌, true, false, length};
 ghost use Rattle.flows.specs.Flow.{Digraph, Flow, residual, residual_side};
 ghost use Rattle.augment.specs.Trails.{Trail};
@@ -10,10 +12,9 @@ ghost use Rattle.rows.specs.Marks.{marked};
 ghost use Rattle.plan.specs.Buffers.{in_front};
 ghost use Rattle.connectivity.specs.Runs.{Held, Largest, PushedOn, EndedAt};
 
-use crate::work::Scratch;
+use crate::work::{FlowMemory, Scratch};
 use augment::augment;
 use plan::CutPlan;
-use rows::flow::Arcs;
 use rows::marks::Marks;
 use search::search;
 use std::ops::ControlFlow;
@@ -25,7 +26,7 @@ pub(crate) struct RunCount {
 }
 
 impl RunCount {
-    // No run is begun yet.
+    // No run is begun yet. No derived `Default`, whose contract would not say so; and so of every `none`.
     pub(crate) fn none() -> RunCount
         ensures { result ≡ record { begun = 0 } }
     {
@@ -47,7 +48,7 @@ pub(crate) struct Searching {
     value: u16,
 }
 
-// A run that no path leads on from.
+// A run that no path leads on from: the same numbers, as a type that can only be read.
 pub(crate) struct Finished {
     from: u16,
     to: u16,
@@ -59,32 +60,38 @@ pub(crate) type Pushed = ControlFlow<Finished, Searching>;
 
 impl Searching {
     // Begins a run: the memory holds no flow, and the count is one higher.
-    pub(crate) fn begin(count: &mut RunCount, flow: &mut Arcs<'_>, from: u16, to: u16) -> Searching
+    pub(crate) fn begin(
+        count: &mut RunCount,
+        flow: &mut FlowMemory<'_>,
+        from: u16,
+        to: u16,
+    ) -> Searching
         requires { count.old.begun + 1 < 4294967296 }
         ensures counted { count.new.begun ≡ count.old.begun + 1 }
         ensures run { result ≡ record { from = from; to = to; value = 0 } }
-        ensures flow { (d : Digraph) → Flow d from to (carried flow.new) 0 }
+        ensures flow { (d : Digraph) → Flow d from to (carried flow.new.arcs) 0 }
     {
         count.begun += 1;
-        flow.wipe();
+        flow.arcs.wipe();
         Searching { from, to, value: 0 }
     }
 
-    // Seeks a residual path from end to end, and notes it at its nodes if there is one.
+    // Seeks a residual path from end to end, and notes it at its nodes if there is one. The answer is a
+    // flag, since the path stands in the lent notes.
     fn seek<P: CutPlan>(
         &self,
         plan: &mut P,
-        flow: &Arcs<'_>,
+        flow: &FlowMemory<'_>,
         scratch: &mut Scratch<'_, '_, '_>,
     ) -> bool
         requires asked { P.CutPlan.asked plan.old self.now.from self.now.to }
         ensures same { plan.new ≡ plan.old }
-        ensures noted { result ≡ true → Trail (residual (P.Plan.digraph plan.old) (carried flow.now)) self.now.from self.now.to scratch.new.notes.before.now }
-        ensures stuck { result ≡ false → residual_side (P.Plan.digraph plan.old) (carried flow.now) self.now.from self.now.to ≡ false }
+        ensures noted { result ≡ true → Trail (residual (P.Plan.digraph plan.old) (carried flow.now.arcs)) self.now.from self.now.to scratch.new.notes.before.now }
+        ensures stuck { result ≡ false → residual_side (P.Plan.digraph plan.old) (carried flow.now.arcs) self.now.from self.now.to ≡ false }
     {
         search(
             plan,
-            flow,
+            &flow.arcs,
             &mut Marks::none(),
             &mut scratch.notes,
             &mut scratch.steps,
@@ -93,25 +100,26 @@ impl Searching {
         )
     }
 
-    // Seeks a residual path and, if there is one, pushes a unit along it.
+    // Seeks a residual path and, if there is one, pushes a unit along it, in the lent memory: so the
+    // answer is a flag.
     fn advance<P: CutPlan>(
         &self,
         plan: &mut P,
-        flow: &mut Arcs<'_>,
+        flow: &mut FlowMemory<'_>,
         scratch: &mut Scratch<'_, '_, '_>,
     ) -> bool
         requires asked { P.CutPlan.asked plan.old self.now.from self.now.to }
-        requires flow { Held (P.Plan.digraph plan.old) self.now flow.old }
+        requires flow { Held (P.Plan.digraph plan.old) self.now flow.old.arcs }
         ensures same { plan.new ≡ plan.old }
-        ensures pushed { result ≡ true → Flow (P.Plan.digraph plan.old) self.now.from self.now.to (carried flow.new) (self.now.value + 1) }
+        ensures pushed { result ≡ true → Flow (P.Plan.digraph plan.old) self.now.from self.now.to (carried flow.new.arcs) (self.now.value + 1) }
         ensures kept { result ≡ false → flow.new ≡ flow.old }
-        ensures stuck { result ≡ false → residual_side (P.Plan.digraph plan.old) (carried flow.old) self.now.from self.now.to ≡ false }
+        ensures stuck { result ≡ false → residual_side (P.Plan.digraph plan.old) (carried flow.old.arcs) self.now.from self.now.to ≡ false }
     {
         if !self.seek(plan, flow, scratch) {
             return false;
         }
         let path = scratch.notes.trace(self.from, self.to);
-        augment(flow, path.as_slice());
+        augment(&mut flow.arcs, path.as_slice());
         true
     }
 
@@ -119,13 +127,13 @@ impl Searching {
     pub(crate) fn push<P: CutPlan>(
         self,
         plan: &mut P,
-        flow: &mut Arcs<'_>,
+        flow: &mut FlowMemory<'_>,
         scratch: &mut Scratch<'_, '_, '_>,
     ) -> Pushed
         requires asked { P.CutPlan.asked plan.old self.from self.to }
-        requires flow { Held (P.Plan.digraph plan.old) self flow.old }
+        requires flow { Held (P.Plan.digraph plan.old) self flow.old.arcs }
         ensures same { plan.new ≡ plan.old }
-        ensures after { PushedOn (P.Plan.digraph plan.old) self result flow.new }
+        ensures after { PushedOn (P.Plan.digraph plan.old) self result flow.new.arcs }
         ensures value { EndedAt (P.CutPlan.valued plan.old self.from self.to) result }
     {
         let found = self.advance(plan, flow, scratch);
@@ -159,18 +167,18 @@ impl Finished {
     fn mark_side<P: CutPlan>(
         &self,
         plan: &mut P,
-        flow: &Arcs<'_>,
+        flow: &FlowMemory<'_>,
         marks: &mut Marks,
         scratch: &mut Scratch<'_, '_, '_>,
     )
         requires asked { P.CutPlan.asked plan.old self.now.from self.now.to }
         ensures same { plan.new ≡ plan.old }
-        ensures side { (q : ℕ) → marked marks.new q ≡ residual_side (P.Plan.digraph plan.old) (carried flow.now) self.now.from q }
+        ensures side { (q : ℕ) → marked marks.new q ≡ residual_side (P.Plan.digraph plan.old) (carried flow.now.arcs) self.now.from q }
     {
         let from = self.from;
         search(
             plan,
-            flow,
+            &flow.arcs,
             marks,
             &mut scratch.notes,
             &mut scratch.nodes,
@@ -183,12 +191,12 @@ impl Finished {
     fn sweep<P: CutPlan>(
         &self,
         plan: &mut P,
-        flow: &Arcs<'_>,
+        flow: &FlowMemory<'_>,
         marks: &mut Marks,
         scratch: &mut Scratch<'_, '_, '_>,
     )
         requires asked { P.CutPlan.asked plan.old self.now.from self.now.to }
-        requires largest { Largest (P.Plan.digraph plan.old) self.now flow.now }
+        requires largest { Largest (P.Plan.digraph plan.old) self.now flow.now.arcs }
         ensures same { plan.new ≡ plan.old }
         ensures side { P.CutPlan.crossing plan.old self.now.from (marked marks.new) ≡ P.CutPlan.nearest plan.old self.now.from self.now.to }
     {
@@ -200,12 +208,12 @@ impl Finished {
     pub(crate) fn write_cut<P: CutPlan>(
         &self,
         plan: &mut P,
-        flow: &Arcs<'_>,
+        flow: &FlowMemory<'_>,
         scratch: &mut Scratch<'_, '_, '_>,
         cut: &mut [P::Item],
     ) -> usize
         requires asked { P.CutPlan.asked plan.old self.now.from self.now.to }
-        requires largest { Largest (P.Plan.digraph plan.old) self.now flow.now }
+        requires largest { Largest (P.Plan.digraph plan.old) self.now flow.now.arcs }
         requires room { length (P.CutPlan.nearest plan.old self.now.from self.now.to) ≤ length cut.old }
         ensures same { plan.new ≡ plan.old }
         ensures count { result ≡ length (P.CutPlan.nearest plan.old self.now.from self.now.to) }
@@ -221,7 +229,7 @@ impl Finished {
 pub(crate) fn complete<P: CutPlan>(
     count: &mut RunCount,
     plan: &mut P,
-    flow: &mut Arcs<'_>,
+    flow: &mut FlowMemory<'_>,
     scratch: &mut Scratch<'_, '_, '_>,
     from: u16,
     to: u16,
@@ -231,7 +239,7 @@ pub(crate) fn complete<P: CutPlan>(
     ensures counted { count.new.begun ≡ count.old.begun + 1 }
     ensures same { plan.new ≡ plan.old }
     ensures run { result ≡ record { from = from; to = to; value = P.CutPlan.valued plan.old from to } }
-    ensures largest { Largest (P.Plan.digraph plan.old) result flow.new }
+    ensures largest { Largest (P.Plan.digraph plan.old) result flow.new.arcs }
 {
     let mut run = Searching::begin(count, flow, from, to);
     loop {

@@ -15,6 +15,7 @@ use serve::serve;
 use std::alloc::{AllocError, Global};
 
 // Serves an input over a grid: a map of n vertices needs 4 n words, and takes an edge for every pair.
+// This and the next are two functions, since each writes its store's memory out.
 pub fn over_grid(heap: Global, words: &mut [u64], input: &[u8]) -> Result<Vec<u8>, AllocError>
     ensures { IfOk result (λ out. Served (record { enough = λ n. nat_le (4 * n) (length words.old); capacity = λ n. n * (n - 1) / 2 }) input.now out.items) }
 {

@@ -48,6 +48,7 @@ pub enum SessionFault {
     Call(Refusal),
 }
 
+// This and the next two are written out and not derived: each says which fault comes of which.
 impl From<DigitFault> for FrameFault {
     ghost from_gives = { λ e r. r ≡ Digits e };
 

@@ -59,6 +59,7 @@ impl<'a> Bytes for Hex<'a> {
         self.text.len() / 2
     }
 
+    // A match and no `map_or`, with which the goal of the return stays open.
     fn at(&self, i: usize) -> u8 {
         match self.text.as_chunks::<2>().0.get(i) {
             Some([high, low]) => 16 * digit_value(*high) + digit_value(*low),

@@ -9,7 +9,7 @@ use std::alloc::AllocError;
 // What a refusal begins with.
 const REFUSED: u8 = 0xFF;
 
-// The character of a digit.
+// The character of a digit; see `write_byte` for why it is written out.
 fn capital(d: u8) -> u8
     requires { d < 16 }
     ensures { result ≡ capital d }

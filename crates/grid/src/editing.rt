@@ -1,10 +1,10 @@
 // How a grid is made and edited. Beside what every store promises, the clauses `rest` say that
 // the words after the rows are as they were.
-ghost use Rattle.std.specs.Prelude.{◌≡◌, ◌*◌, ◌≤◌, false, length, drop, is_ok};
-ghost use Rattle.graph.specs.Graph.{order_limit};
-ghost use Rattle.model.specs.Model.{bare};
-ghost use Rattle.model.specs.Table.{reply_on};
-ghost use Rattle.model.specs.declared.call.Call.TheVariants.{Join, Part};
+ghost use Rattle.std.specs.Prelude.{◌≡◌, ◌*◌, ◌≤◌, false, length, drop, is_ok, Ok};
+ghost use Rattle.graph.specs.Graph.{order_limit, empty};
+ghost use Rattle.model.specs.Model.{bare, unmade};
+ghost use Rattle.model.specs.Table.{reply, reply_on};
+ghost use Rattle.model.specs.declared.call.Call.TheVariants.{Make, Join, Part};
 ghost use Rattle.store.specs.Change.{after_join, after_part};
 ghost use Rattle.grid.specs.Rows.{wiped, lent_words};
 ghost use Rattle.grid.specs.Meaning.{graph_of, capacity_of};
@@ -15,9 +15,8 @@ use model::{Refusal, Vertex, is_bad_order};
 use store::{Editable, check_ends};
 
 impl<'a> Grid<'a> {
-    // The map of n vertices and no edge, over the first words of the memory. This is `make`,
-    // which can say no more than its trait: the rows are zeros, and the words after them are
-    // as they were.
+    // The map of n vertices and no edge, over the first words of the memory: the rows are zeros,
+    // and the words after them are as they were. The order is a plain number, as `make` takes it.
     pub fn over(n: u16, memory: &'a mut [u64]) -> Grid<'a>
         requires { (1 ≤ n) × ((n ≤ order_limit) × (4 * n ≤ length memory.old)) }
         ensures order { result.n ≡ n }
@@ -48,8 +47,13 @@ impl<'a> Editable for Grid<'a> {
         Ok(())
     }
 
-    // See `over`, which says what becomes of the words too.
-    fn make(n: u16, memory: &'a mut [u64]) -> Grid<'a> {
+    // A map of n vertices and no edge. Beyond the trait: what becomes of the words.
+    fn make(n: u16, memory: &'a mut [u64]) -> Grid<'a>
+        requires { reply (lent_words memory.old) unmade (Make n) ≡ Ok tt }
+        ensures graph { graph_of result ≡ empty n }
+        ensures most { capacity_of result ≡ (lent_words memory.old).capacity n }
+        ensures words { result.words.now ≡ wiped n memory.old }
+    {
         Grid::over(n, memory)
     }
 

@@ -62,7 +62,7 @@ impl<'a> Map for Grid<'a> {
         u < self.n && v < self.n && self.has(u, v)
     }
 
-    // What is no vertex has no neighbours.
+    // What is no vertex has no neighbours. An `if`, here and below: a row is only there for a vertex.
     fn degree(&mut self, u: Vertex) -> u16 {
         if u < self.n { self.count(u) } else { 0 }
     }

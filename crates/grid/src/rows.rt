@@ -12,7 +12,7 @@ fn word_count(word: u64) -> u16
     word.count_ones() as u16
 }
 
-// How many bits of the row are set.
+// How many bits of the row are set: the ones of its four words, written out as the form of a row is.
 pub(crate) fn row_count(row: &[u64]) -> u16
     requires { length row.now ≡ 4 }
     ensures { result ≡ set_bits row.now }

@@ -1,9 +1,10 @@
 // How a list is made and edited. Beside what every store promises, the clauses `cells` say
 // what the cells hold.
-ghost use Rattle.std.specs.Prelude.{◌≡◌, false, is_ok};
-ghost use Rattle.model.specs.Model.{bare};
-ghost use Rattle.model.specs.Table.{reply_on};
-ghost use Rattle.model.specs.declared.call.Call.TheVariants.{Join, Part};
+ghost use Rattle.std.specs.Prelude.{◌≡◌, false, is_ok, Ok};
+ghost use Rattle.graph.specs.Graph.{empty};
+ghost use Rattle.model.specs.Model.{bare, unmade};
+ghost use Rattle.model.specs.Table.{reply, reply_on};
+ghost use Rattle.model.specs.declared.call.Call.TheVariants.{Make, Join, Part};
 ghost use Rattle.store.specs.Change.{after_join, after_part};
 ghost use Rattle.list.specs.Meaning.{codes_of, graph_of, capacity_of, lent_cells, joined_cells, parted_cells};
 
@@ -26,8 +27,13 @@ impl<'a> Editable for List<'a> {
         Ok(())
     }
 
-    // A map of n vertices and no edge; `blank` says that no cell is touched.
-    fn make(n: u16, memory: &'a mut [u16]) -> List<'a> {
+    // A map of n vertices and no edge. Beyond the trait: no cell is touched.
+    fn make(n: u16, memory: &'a mut [u16]) -> List<'a>
+        requires { reply (lent_cells memory.old) unmade (Make n) ≡ Ok tt }
+        ensures graph { graph_of result ≡ empty n }
+        ensures most { capacity_of result ≡ (lent_cells memory.old).capacity n }
+        ensures cells { codes_of result ≡ memory.old }
+    {
         List::blank(n, memory)
     }
 

@@ -9,7 +9,8 @@ use crate::codes::{edge_code, move_in, move_out};
 use model::Vertex;
 
 impl<'a> List<'a> {
-    // A map of n vertices and no edge. No cell is touched.
+    // A map of n vertices and no edge. No cell is touched. The order is a plain number, as `make`
+    // takes it.
     pub fn blank(n: u16, cells: &'a mut [u16]) -> List<'a>
         requires some { 1 ≤ n }
         requires small { n ≤ order_limit }

@@ -10,7 +10,8 @@ mod editing;
 mod laying;
 mod questions;
 
-// A map of n vertices whose edges stand in the first `count` cells.
+// A map of n vertices whose edges stand in the first `count` cells. The cells are lent, and the
+// number in use stands beside them, since a list takes no memory of its own.
 #[derive(Drop)]
 pub struct List<'a> {
     n: u16,

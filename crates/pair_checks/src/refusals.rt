@@ -8,7 +8,8 @@ use pairs::{Pile, edge_cut_between, vertex_cut_between};
 use std::test::Fail;
 use store::{Editable, Map};
 
-// What an edge question is refused with, lent so many words and so much room for a cut.
+// What an edge question is refused with, lent so many words and so much room for a cut. Each kind of
+// question has a buffer of its own kind, so this and the next are two.
 fn edge_refusal<S: Editable>(
     pile: &mut Pile<S>,
     a: Vertex,

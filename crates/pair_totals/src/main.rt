@@ -83,7 +83,7 @@ struct Sums {
 }
 
 impl Sums {
-    // Adds one pair.
+    // Adds one pair: two questions with buffers of two kinds, so the halves are written out.
     fn add_pair<S: Editable>(
         &mut self,
         pile: &mut Pile<S>,
@@ -146,7 +146,7 @@ fn add_all<S: Editable>(pile: &mut Pile<S>) -> Sums {
 // The sums of the map that a text of frames makes, if it makes one.
 fn sums_of<S: Editable>(memory: S::Memory, text: &str) -> Option<Sums> {
     let mut lines = text.lines();
-    let Ok(Call::Make(n)) = read_call(lines.next()?.as_bytes()) else {
+    let Call::Make(n) = read_call(lines.next()?.as_bytes()).ok()? else {
         return None;
     };
     let planner = Planner::<S>::open(n, memory).ok()?;

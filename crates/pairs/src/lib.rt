@@ -20,7 +20,9 @@ use store::Editable;
 pub type Pile<S> = Split<Line<Planner<S>>>;
 
 // The edge value of a and b, with their nearest edge cut in front of the buffer, or why it
-// can't be had. The map is unchanged; so is all memory after a refusal.
+// can't be had. The map is unchanged; so is all memory after a refusal. Here and below, the work
+// memory is taken apart and built anew, since a struct of lent slices can't be handed on whole; what
+// is left of it is said part by part. The two questions are two, as each writes its own promise out.
 pub fn edge_cut_between<S: Editable>(
     pile: &mut Pile<S>,
     a: Vertex,

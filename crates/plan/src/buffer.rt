@@ -3,7 +3,8 @@ ghost use Rattle.std.specs.Prelude.{◌≡◌, ◌+◌, ◌≤◌, length};
 ghost use Rattle.std.specs.Option.{option_to_list};
 ghost use Rattle.plan.specs.Writing.{placed};
 
-// A buffer, of which the first slots are written; the others have what stood in them before.
+// A buffer, of which the first slots are written; the others have what stood in them before. Who
+// writes on says that it lies over the same slots (`same_reference`), since no type can.
 #[derive(Drop)]
 pub(crate) struct Filling<'a, T> {
     slots: &'a mut [T],

@@ -65,7 +65,7 @@ pub trait CutPlan: Plan {
     ghost crossing: { Self → ℕ → (ℕ → Bool) → List Self.Item };
 
     // Writes the items at which arcs leave the marked nodes, a set that has `from`, and says how
-    // many they are. Entries past them keep their content.
+    // many they are. Entries past them keep their content, as the buffer is lent.
     fn write_cut(&mut self, from: u16, marks: &Marks, cut: &mut [Self::Item]) -> usize
         requires { length (crossing self.old from (marked marks.now)) ≤ length cut.old }
         ensures count { result ≡ length (crossing self.old from (marked marks.now)) }

@@ -51,7 +51,9 @@ impl<M: Map> Line<M> {
         self.map.joined(u, v).then_some(Edge { low: u, high: v })
     }
 
-    // Writes the edges from u up that have one end marked, behind those that are written.
+    // Writes the edges from u up that have one end marked, behind those that are written. The loop
+    // leaps from one mark that differs to the next, where a `for` would ask for every vertex. The
+    // order n is passed, so that it is asked for once a cut and not once a row.
     fn write_row(&mut self, n: u16, marks: &Marks, u: Vertex, cut: &mut Filling<'_, Edge>)
         requires order { n ≡ (M.Map.graph self.old.map).order }
         requires within { u < n }
@@ -84,7 +86,8 @@ impl<M: Map> Line<M> {
     }
 }
 
-// As a map, the layer is the map below.
+// As a map, the layer is the map below. The questions are passed on one by one: no form of the
+// language passes a trait on to a field.
 impl<M: Map> Map for Line<M> {
     ghost graph = { λ s. M.Map.graph s.map };
 

@@ -61,7 +61,8 @@ impl<M> Split<M> {
 }
 
 impl<M: Map> Split<M> {
-    // The vertex v, if the arc through it leaves the marked nodes, or the arc from `from` to it.
+    // The vertex v, if the arc through it leaves the marked nodes, or the arc from `from` to it. The
+    // order n is passed, a plain number, so that it is asked for once a cut and not once a vertex.
     fn vertex_at(&mut self, n: u16, from: Vertex, marks: &Marks, v: Vertex) -> Option<Vertex>
         requires order { n ≡ (M.Map.graph self.old.map).order }
         requires within { (v < n) × (n ≤ order_limit) }
@@ -92,16 +93,11 @@ impl<M: Map> Split<M> {
 }
 
 // The exit of the vertex p, unless p is none or w is past the exit.
-// An `if` and no `then_some`, since the sum fits only where p is a vertex.
 fn exit_from(n: u16, p: u16, w: u16) -> Option<u16>
     requires { n ≤ order_limit }
     ensures { result ≡ exit_from n p w }
 {
-    if p < n && w <= n + p {
-        Some(n + p)
-    } else {
-        None
-    }
+    (p < n && w <= n + p).then(|| n + p)
 }
 
 // As a plan, there is an entry and an exit for each vertex.

@@ -5,7 +5,8 @@ ghost use Rattle.ring.specs.Queue.{popped_from};
 
 use std::marker::Model;
 
-// The `len` items that wait, the first of them in the slot `head`.
+// The `len` items that wait, the first of them in the slot `head`. The slots are lent and of any
+// number, so the length stands beside them.
 #[derive(Drop)]
 pub struct Ring<'a, T: Copy> {
     slots: &'a mut [T],
@@ -87,7 +88,7 @@ impl<'a, T: Copy> Ring<'a, T> {
             return None;
         }
         let x = self.slots[self.head];
-        self.head = slot_behind(self.slots.len(), self.head, 1);
+        self.head = next_slot(self.slots.len(), self.head);
         self.len -= 1;
         Some(x)
     }
@@ -101,4 +102,12 @@ fn slot_behind(size: usize, head: usize, n: usize) -> usize
 {
     let left = size - head;
     if n < left { head + n } else { n - left }
+}
+
+// The slot behind the slot `head`.
+fn next_slot(size: usize, head: usize) -> usize
+    requires { head < size }
+    ensures { result ≡ round size (head + 1) }
+{
+    slot_behind(size, head, 1)
 }

@@ -3,17 +3,17 @@ ghost use Rattle.std.specs.Prelude.{◌≡◌, ℕ, ◌-◌, ◌<◌, ◌≤◌,
 ghost use Rattle.graph.specs.Graph.{first};
 ghost use Rattle.rows.specs.Marks.{marked};
 
-// How many numbers the set can hold.
+// How many numbers the set can hold. Bounds by it are asked where a number is plain.
 const MOST: u16 = 448;
 
-// The set owns its words, so that none is marked by another's write.
+// The set owns its words: nothing else is said in them.
 #[derive(Clone, Copy)]
 pub struct Marks {
     words: [u64; 7],
 }
 
 impl Marks {
-    // The set with no node marked.
+    // The set with no node marked. No derived `Default`, whose contract would not say so.
     #[tactic(auto, using(crate::proofs::Sets::none_marked))]
     pub fn none() -> Marks
         ensures { marked result ≡ (λ k. false) }
@@ -53,7 +53,8 @@ impl Marks {
         bits::next(&self.words, seen, w)
     }
 
-    // The lowest node from w up and below n that is not marked.
+    // The lowest node from w up and below n that is not marked. This and the next are two functions,
+    // since a name tells a reader which is meant and a `true` does not.
     pub fn next_unmarked(&self, w: u16, n: u16) -> Option<u16>
         requires { n ≤ 448 }
         ensures { result ≡ first (λ q. not (marked self.now q)) w (n - w) }

@@ -49,15 +49,16 @@ scan_on {v = v} s l high = record {
 scan_none : {m test : ℕ → Bool} {w v : ℕ} (n : ℕ) → Scan m test w v → n ≤ v → None ≡ first (fresh m test) w (n - w)
 scan_none {m} {test} {w} n s l = first_missing (fresh m test) w n (λ k a b. s.none k a (omega arith))
 
--- A scan has come to v, and asks for the numbers of a larger test.
+-- A scan has come to v, and asks for the numbers of a larger test; r is what was answered on whether
+-- the next of them is marked.
 module _ {base test m : ℕ → Bool} {w v : ℕ} (s : Scan m test w v) (only : (k : ℕ) → base k ≡ false → test k ≡ false) where
   -- It comes to the next number of the larger test.
   reach : {e q : ℕ} → Found base v e q → Scan m test w q
   reach f = scan_on s f.from (λ k a b. fresh_off m test k (only k (f.none k a b)))
 
   -- That number is the lowest, if it passes and is not marked.
-  pub hit : {e n q : ℕ} → Found base v e q → q < n → m q ≡ false → test q ≡ true → Some q ≡ first (fresh m test) w (n - w)
-  hit {n = n} {q = q} f l h t = let r = reach f in first_found (fresh m test) w q n r.from l r.none (fresh_from m test q h t)
+  pub hit : {e n q : ℕ} {r : Bool} → Found base v e q → q < n → r ≡ m q → r ≡ false → test q ≡ true → Some q ≡ first (fresh m test) w (n - w)
+  hit {n = n} {q = q} f l is h t = let r = reach f in first_found (fresh m test) w q n r.from l r.none (fresh_from m test q (sym is ∙ h) t)
 
   -- Or else the scan goes on behind it.
   pub on : {e q : ℕ} → Found base v e q → fresh m test q ≡ false → Scan m test w (q + 1)
@@ -74,17 +75,21 @@ module _ {base test m : ℕ → Bool} {w v : ℕ} (s : Scan m test w v) (only : 
       (λ k a b. ⊎_elim (λ c. s.none k a c) (λ c. fresh_off m test k (only k (h k c (omega arith)))) (cases_lt k v))
 
   -- That number is marked, and so are all from it up to u.
-  pub leap : {e n q u : ℕ} → Found base v e q → m q ≡ true → Found (λ k. not (m k)) (q + 1) n u → Scan m test w u
-  leap {q = q} f h g =
-      scan_on (on f (fresh_marked m test q h)) g.from (λ k a b. fresh_marked m test k (not-false (m k) (g.none k a b)))
+  pub leap : (n : ℕ) {e q u : ℕ} {r : Bool} → Found base v e q → r ≡ m q → r ≡ true → Some u ≡ first (λ k. not (m k)) (q + 1) (n - (q + 1))
+      → Scan m test w u
+  leap n {q = q} {u = u} f is h a =
+      let g = first_some (λ k. not (m k)) (q + 1) n u (sym a) in
+      scan_on (on f (fresh_marked m test q (sym is ∙ h))) g.from (λ k a b. fresh_marked m test k (not-false (m k) (g.none k a b)))
 
   -- That number is marked, and so are all above it.
-  pub leap_none : {e n q : ℕ} → Found base v e q → m q ≡ true → ((k : ℕ) → q + 1 ≤ k → k < n → not (m k) ≡ false)
+  pub leap_none : (n : ℕ) {e q : ℕ} {r : Bool} → Found base v e q → r ≡ m q → r ≡ true → None ≡ first (λ k. not (m k)) (q + 1) (n - (q + 1))
       → None ≡ first (fresh m test) w (n - w)
-  leap_none {n = n} {q = q} f h g =
-      let t = on f (fresh_marked m test q h) in
+  leap_none n {q = q} f is h a =
+      let t = on f (fresh_marked m test q (sym is ∙ h)) in
       first_missing (fresh m test) w n
-      (λ k a b. ⊎_elim (λ c. t.none k a c) (λ c. fresh_marked m test k (not-false (m k) (g k c b))) (cases_lt k (q + 1)))
+      (λ k b c. ⊎_elim (λ l. t.none k b l)
+      (λ l. fresh_marked m test k (not-false (m k) (first_all (λ k. not (m k)) (q + 1) n (sym a) k l c)))
+      (cases_lt k (q + 1)))
 
 module _ (d : Digraph) (f : ℕ → ℕ → Bool) (p q : ℕ) where
   -- Where no arc leads, none with room does.
@@ -92,15 +97,15 @@ module _ (d : Digraph) (f : ℕ → ℕ → Bool) (p q : ℕ) where
   unfolding along
   along_only h = and_left (d.arc p q) (not (f p q)) h
 
-  -- Where the flow goes already, there is no room.
-  pub along_full : f p q ≡ true → along d f p q ≡ false
+  -- Where it was answered that there is no room, there is none.
+  pub along_full : {r : Bool} → r ≡ not (f p q) → r ≡ false → along d f p q ≡ false
   unfolding along
-  along_full h = and_right (d.arc p q) (not (f p q)) (not_from_true (f p q) h)
+  along_full is h = and_right (d.arc p q) (not (f p q)) (sym is ∙ h)
 
-  -- An arc along which the flow does not go has room.
-  pub along_from : d.arc p q ≡ true → f p q ≡ false → along d f p q ≡ true
+  -- Where it was answered that there is, an arc has room.
+  pub along_from : {r : Bool} → d.arc p q ≡ true → r ≡ not (f p q) → r ≡ true → along d f p q ≡ true
   unfolding along
-  along_from h e = and_from (d.arc p q) (not (f p q)) h (not_from_false (f p q) e)
+  along_from a is h = and_from (d.arc p q) (not (f p q)) a (sym is ∙ h)
 
 -- What a plan that is as it was says of the arcs from p.
 module _ {X : Type 0} (D : X → Digraph) (p v : ℕ) {a b : X} {n : ℕ} (same : a ≡ b) (nodes : n ≡ (D b).nodes) where

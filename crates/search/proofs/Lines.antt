@@ -3,20 +3,16 @@
 --   each                               what two equal tests say of each number
 --   first_marks                        the marks after the first node is marked
 --   found_at, none_at                  what was found below a bound that is the same as another
---   nodes_at, state_at, turn_at, trail_at     what holds of a plan that is as it was
 --   along_found, along_none            what the next arc with room is, in such a plan
---   pushed_nodes                       the nodes of a line after a push that has room
 --   taken_first                        the first of a line is taken to be looked at
 --   arcs_done                          its arcs have been looked at
-use Rattle.std.proofs.Common.{◌≡◌, ℕ, ◌+◌, ◌-◌, ◌<◌, ◌≤◌, Bool, false, cond, ◌||◌, eqb, ltb, List, [], ◌∷◌, ◌++◌, map, length, Some, None, Option, sym, ap, ◌∙◌, subst, MatchOption}
-use Rattle.std.proofs.lemmas.List.{map_push}
-use Rattle.std.proofs.lemmas.Bool.{lt-ltb}
+use Rattle.std.proofs.Common.{◌≡◌, ℕ, ◌+◌, ◌-◌, ◌<◌, ◌≤◌, Bool, false, ◌||◌, eqb, List, ◌∷◌, map, length, set, Some, None, Option, sym, ap, ◌∙◌, length-set}
 use Rattle.graph.specs.Graph.{first}
 use Rattle.graph.proofs.Firsts.{Found, first_some, first_all}
-use Rattle.flows.specs.Flow.{Digraph, residual}
+use Rattle.flows.specs.Flow.{Digraph}
 use Rattle.search.specs.Steps.{along, fresh}
-use Rattle.augment.specs.Trails.{Trail}
 use Rattle.search.proofs.States.{State, Nobody, unmarked}
+use Rattle.augment.specs.declared.notes.Notes.{Notes}
 use Rattle.search.proofs.Turns.{Turn, taken, recounted, along_all}
 
 -- Equal tests say the same of each number.
@@ -38,25 +34,6 @@ module _ (test : ℕ → Bool) (w : ℕ) {n n' : ℕ} (bound : n ≡ n') where
 
 -- A plan is as it was.
 module _ {X : Type 0} (D : X → Digraph) {a b : X} (same : a ≡ b) where
-  -- It has as many nodes.
-  pub nodes_at : {n : ℕ} → n ≡ (D b).nodes → n ≡ (D a).nodes
-  nodes_at nodes = nodes ∙ ap (λ (x : X). (D x).nodes) (sym same)
-
-  -- What is true of a search in it stays so.
-  pub state_at : {f : ℕ → ℕ → Bool} {s : ℕ} {goal : Option ℕ} {queue : List ℕ} {m : ℕ → Bool} {before : List ℕ}
-      → State (D a) f s goal Nobody queue m before → State (D b) f s goal Nobody queue m before
-  state_at {f} {s} {goal} {queue} {m} {before} = subst (λ (x : X). State (D x) f s goal Nobody queue m before) same
-
-  -- So does what is true while a node is looked at.
-  pub turn_at : {f : ℕ → ℕ → Bool} {s : ℕ} {goal : Option ℕ} {p v w : ℕ} {queue : List ℕ} {m : ℕ → Bool} {before : List ℕ} {e : ℕ}
-      → Turn (D a) f s goal p v w queue m before e → Turn (D b) f s goal p v w queue m before e
-  turn_at {f} {s} {goal} {p} {v} {w} {queue} {m} {before} {e} = subst (λ (x : X). Turn (D x) f s goal p v w queue m before e) same
-
-  -- A trail to the goal stays one.
-  pub trail_at : (f : ℕ → ℕ → Bool) (s : ℕ) (goal : Option ℕ) (before : List ℕ)
-      → MatchOption goal ⊥ (λ t. Trail (residual (D a) f) s t before) → MatchOption goal ⊥ (λ t. Trail (residual (D b) f) s t before)
-  trail_at f s goal before = subst (λ (x : X). MatchOption goal ⊥ (λ t. Trail (residual (D x) f) s t before)) same
-
   -- What its arcs say.
   module _ (f : ℕ → ℕ → Bool) (m : ℕ → Bool) (p w : ℕ) {n : ℕ} (nodes : n ≡ (D b).nodes) where
     -- The fresh nodes to which an arc with room leads from p are those that were.
@@ -71,13 +48,6 @@ module _ {X : Type 0} (D : X → Digraph) {a b : X} (same : a ≡ b) where
     pub along_none : None ≡ first (fresh m (along (D a) f p)) w (n - w) → (k : ℕ) → w ≤ k → k < (D b).nodes → fresh m (along (D b) f p) k ≡ false
     along_none h = none_at (fresh m (along (D b) f p)) w nodes (h ∙ asked)
 
--- A push that has room puts the node of the item at the end.
-pub pushed_nodes : {E : Type 0} (node : E → ℕ) (xs : List E) (x : E) {ys : List E} {size : ℕ} {r : Bool} → length xs < size
-    → r ≡ ltb (length xs) size → ys ≡ xs ++ cond r (x ∷ []) [] → map node ys ≡ map node xs ++ (node x ∷ [])
-pushed_nodes node xs x {size = size} l took items =
-    ap (map node) (items ∙ ap (λ (b : Bool). xs ++ cond b (x ∷ []) []) (took ∙ lt-ltb (length xs) size l))
-    ∙ map_push node xs x
-
 -- A node p is looked at, in a plan of n nodes that is as it was.
 module _ {X : Type 0} (D : X → Digraph) {f : ℕ → ℕ → Bool} {s : ℕ} {goal : Option ℕ} {n p : ℕ} {m : ℕ → Bool} {before : List ℕ} where
   -- It has been taken from the line.
@@ -85,13 +55,21 @@ module _ {X : Type 0} (D : X → Digraph) {f : ℕ → ℕ → Bool} {s : ℕ} {
       → State (D a) f s goal Nobody (map node xs) m before
       → Turn (D b) f s goal p 0 0 (map node ys) m before (length (map node ys) + unmarked m n)
   taken_first node {b = b} {ys = ys} same nodes e items st =
-      recounted
-      (taken (subst (λ (z : List ℕ). State (D b) f s goal Nobody z m before)
-      (ap (map node) items ∙ ap (λ (k : ℕ). k ∷ map node ys) (sym e))
-      (state_at D (sym same) st)))
-      nodes
+      let here : State (D b) f s goal Nobody (p ∷ map node ys) m before = rw (same, e) (rw items at st) in recounted (taken here) nodes
 
   -- No more arc with room leads from p to a node that is not marked.
   pub arcs_done : {a b c : X} {queue : List ℕ} {v e : ℕ} → a ≡ b → c ≡ a → n ≡ (D b).nodes → None ≡ first (fresh m (along (D a) f p)) v (n - v)
       → Turn (D b) f s goal p v 0 queue m before e → Turn (D c) f s goal p n 0 queue m before (length queue + unmarked m n)
-  arcs_done {v = v} ab ca nodes h t = turn_at D (sym (ca ∙ ab)) (recounted (along_all t nodes (along_none D ab f m p v nodes h)) nodes)
+  arcs_done {v = v} ab ca nodes h t = rw (ca, ab) (recounted (along_all t nodes (along_none D ab f m p v nodes h)) nodes)
+
+-- Notes that lie over the same numbers as others, as many.
+abbrev pub Lies : Notes → Notes → Type 0
+Lies now first = (now.before.ghost_name ≡ first.before.ghost_name) × (length now.before.now ≡ length first.before.now)
+
+-- They do so still after one more is noted.
+pub lies_on : (a b c : Notes) (q p : ℕ) → b.before.now ≡ set a.before.now q p → b.before.ghost_name ≡ a.before.ghost_name → Lies a c → Lies b c
+lies_on a b c q p e same l = (same ∙ l.0, ap length e ∙ length-set a.before.now q p ∙ l.1)
+
+-- And over those that these lie over.
+pub lies_over : (a b c : Notes) → Lies a b → Lies b c → Lies a c
+lies_over a b c l m = (l.0 ∙ m.0, l.1 ∙ m.1)

@@ -8,6 +8,7 @@
 --   Entry     one node more is found, marked and noted
 --   entered   it waits too
 use Rattle.std.proofs.Common.{◌≡◌, ℕ, ◌+◌, ◌<◌, ◌≤◌, Bool, true, false, not, ◌||◌, eqb, ◌⊎◌, List, [], ◌∷◌, ◌++◌, length, set, IfSome, Some, None, Option, sym, refl, ap, ◌∙◌, subst, inl, inr, ⊎_elim, arith, length-append, MatchOption}
+use Rattle.std.proofs.Math.Bool.{or-false}
 use Rattle.std.proofs.lemmas.Bool.{both_ways, eq-eqb, eqb-true, ne_eqb, eqb-false, or_cases, or_left, or_right, or_from, not_from_true, not_from_false}
 use Rattle.graph.specs.Graph.{count}
 use Rattle.graph.proofs.Counts.{count_one, count_miss}
@@ -178,12 +179,7 @@ module _ {d : Digraph} {f : ℕ → ℕ → Bool} {s : ℕ} {goal : Option ℕ} 
   unfolding unmarked
   fewer =
       count_one (λ k. not (m' k)) (λ k. not (m k)) q d.nodes new.node (not_from_true (m' q) new_marked) (not_from_false (m q) new.free)
-      (λ k _ ne. ap not (sym (new.with_q k ∙ ap (λ (b : Bool). m k || b) (ne_eqb k q ne) ∙ or_false (m k))))
-    where
-      -- A test, or no, is the test.
-      or_false : (b : Bool) → (b || false) ≡ b
-      or_false true = refl
-      or_false false = refl
+      (λ k _ ne. let e = new.with_q k in let n = ne_eqb k q ne in grind (arith, or-false))
 
   -- So what waits is fewer than the nodes.
   pub roomy : length queue < d.nodes

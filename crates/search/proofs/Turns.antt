@@ -22,7 +22,7 @@ pub record Passed (m test : ℕ → Bool) (v : ℕ) : Type 0 where
 
 -- Nothing is below 0.
 passed_none : (m test : ℕ → Bool) → Passed m test 0
-passed_none m test = record { all = λ k l e. let z : ⊥ = omega arith in absurd z }
+passed_none m test = record { all = λ k l e. absurd (omega arith) }
 
 -- The next fresh number is found and marked.
 passed_more : {m m' test : ℕ → Bool} {v n q : ℕ} → Passed m test v → Found (fresh m test) v n q → ((k : ℕ) → m k ≡ true → m' k ≡ true) → m' q ≡ true
@@ -55,7 +55,7 @@ pub record Turn (d : Digraph) (f : ℕ → ℕ → Bool) (s : ℕ) (goal : Optio
 
 module _ (d : Digraph) (f : ℕ → ℕ → Bool) (p q : ℕ) where
   -- A step along an arc with room is a residual step.
-  along_step : along d f p q ≡ true → residual d f p q ≡ true
+  pub along_step : along d f p q ≡ true → residual d f p q ≡ true
   unfolding along
   along_step h = or_right (f q p) (d.arc p q && not (f p q)) h
 
@@ -124,39 +124,25 @@ module _ {d : Digraph} {f : ℕ → ℕ → Bool} {s : ℕ} {goal : Option ℕ} 
 
     -- A node q is found from p, and there is room to note p for it; the notes after that.
     module _ {q : ℕ} (wide : q < length before) {after : List ℕ} (note : after ≡ set before q p) where
-      -- It is found along an arc with room, and marked.
-      ahead_new : {m' : ℕ → Bool} → ((k : ℕ) → m' k ≡ (m k || eqb k q)) → Found (fresh m (along d f p)) v d.nodes q
-          → Entry d f s goal (λ x. x ≡ p) queue m m' before p q
-      ahead_new with_q o =
-          let a = fresh_parts m (along d f p) q o.here in
-          record { state = t.state; from = t.here; free = a.0; node = o.below; step = along_step d f p q a.1; wide = wide; with_q = with_q }
-
-      -- It is found back along the flow, and marked.
-      behind_new : {m' : ℕ → Bool} → ((k : ℕ) → m' k ≡ (m k || eqb k q)) → Found (fresh m (back f p)) w d.nodes q
-          → Entry d f s goal (λ x. x ≡ p) queue m m' before p q
-      behind_new with_q o =
-          let a = fresh_parts m (back f p) q o.here in
-          record { state = t.state; from = t.here; free = a.0; node = o.below; step = back_step d f p q a.1; wide = wide; with_q = with_q }
+      -- It is found by a test that leads along residual steps, and marked.
+      found_new : (test : ℕ → Bool) {m' : ℕ → Bool} {u : ℕ} → ((k : ℕ) → m' k ≡ (m k || eqb k q)) → Found (fresh m test) u d.nodes q
+          → (test q ≡ true → residual d f p q ≡ true) → Entry d f s goal (λ x. x ≡ p) queue m m' before p q
+      found_new test with_q o step =
+          let a = fresh_parts m test q o.here in
+          record { state = t.state; from = t.here; free = a.0; node = o.below; step = step a.1; wide = wide; with_q = with_q }
 
       -- What leads to the goal by the notes leads to it by what they are now.
       as_noted : MatchOption goal ⊥ (λ t. Trail (residual d f) s t (set before q p)) → MatchOption goal ⊥ (λ t. Trail (residual d f) s t after)
       as_noted = subst (λ (b : List ℕ). MatchOption goal ⊥ (λ t. Trail (residual d f) s t b)) (sym note)
 
-      -- It is the goal, found along an arc with room.
-      pub found_along : Found (fresh m (along d f p)) v d.nodes q → is_goal goal q ≡ true → MatchOption goal ⊥ (λ t. Trail (residual d f) s t after)
-      found_along o g = as_noted (goal_found (ahead_new {m' = λ k. m k || eqb k q} (λ k. refl) o) g)
+      -- It is the goal.
+      pub found : (test : ℕ → Bool) {u : ℕ} → Found (fresh m test) u d.nodes q → (test q ≡ true → residual d f p q ≡ true) → is_goal goal q ≡ true
+          → MatchOption goal ⊥ (λ t. Trail (residual d f) s t after)
+      found test o step g = as_noted (goal_found (found_new test {m' = λ k. m k || eqb k q} (λ k. refl) o step) g)
 
-      -- It is the goal, found back along the flow.
-      pub found_back : Found (fresh m (back f p)) w d.nodes q → is_goal goal q ≡ true → MatchOption goal ⊥ (λ t. Trail (residual d f) s t after)
-      found_back o g = as_noted (goal_found (behind_new {m' = λ k. m k || eqb k q} (λ k. refl) o) g)
-
-      -- There is room for it to wait, if it is found along an arc.
-      pub roomy_along : Found (fresh m (along d f p)) v d.nodes q → length queue < d.nodes
-      roomy_along o = roomy (ahead_new {m' = λ k. m k || eqb k q} (λ k. refl) o)
-
-      -- There is room for it to wait, if it is found back along the flow.
-      pub roomy_back : Found (fresh m (back f p)) w d.nodes q → length queue < d.nodes
-      roomy_back o = roomy (behind_new {m' = λ k. m k || eqb k q} (λ k. refl) o)
+      -- There is room for it to wait.
+      pub has_room : (test : ℕ → Bool) {u : ℕ} → Found (fresh m test) u d.nodes q → (test q ≡ true → residual d f p q ≡ true) → length queue < d.nodes
+      has_room test o step = roomy (found_new test {m' = λ k. m k || eqb k q} (λ k. refl) o step)
 
       -- It is not the goal; it is marked and waits.
       module _ {m' : ℕ → Bool} {queue' : List ℕ} (with_q : (k : ℕ) → m' k ≡ (m k || eqb k q)) (longer : queue' ≡ queue ++ (q ∷ []))
@@ -177,11 +163,11 @@ module _ {d : Digraph} {f : ℕ → ℕ → Bool} {s : ℕ} {goal : Option ℕ} 
         -- It goes on behind q after an arc.
         pub by_along : Found (fresh m (along d f p)) v d.nodes q → Turn d f s goal p (q + 1) w queue' m' after e
         by_along o =
-            let new = ahead_new with_q o in
+            let new = found_new (along d f p) with_q o (along_step d f p q) in
             waits new (passed_more t.ahead o (grown new) (new_marked new)) (passed_kept t.behind (grown new))
 
         -- It goes on behind q after a step back.
         pub by_back : Found (fresh m (back f p)) w d.nodes q → Turn d f s goal p v (q + 1) queue' m' after e
         by_back o =
-            let new = behind_new with_q o in
+            let new = found_new (back f p) with_q o (back_step d f p q) in
             waits new (passed_kept t.ahead (grown new)) (passed_more t.behind o (grown new) (new_marked new))

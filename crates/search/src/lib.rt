@@ -35,6 +35,9 @@ fn is_goal(goal: Option<u16>, q: u16) -> bool
 
 // Marks what `from` reaches by residual steps: along an arc on which the flow leaves room, or
 // back along the flow. With a goal it leaves off there, and the notes lead back.
+// The answer is a flag and no path, since the path stands in the lent notes.
+// The two inner loops stay two: each asks another question and is left by its own break. They leap
+// from node to node, which a `for` would not.
 pub fn search<P: Plan, E: Waiting>(
     plan: &mut P,
     flow: &Arcs<'_>,
@@ -46,7 +49,10 @@ pub fn search<P: Plan, E: Waiting>(
 ) -> bool
     requires start { from < (P.Plan.digraph plan.old).nodes }
     requires goal { IfSome goal (λ t. (t < (P.Plan.digraph plan.old).nodes) × (from ≢ t)) }
+    requires memory { 402 ≤ length notes.old.before.now }
     ensures same { plan.new ≡ plan.old }
+    ensures same_reference { notes.new.before.ghost_name ≡ notes.old.before.ghost_name }
+    ensures size { length notes.new.before.now ≡ length notes.old.before.now }
     ensures found { result ≡ true → MatchOption goal ⊥ (λ t. Trail (residual (P.Plan.digraph plan.old) (carried flow.now)) from t notes.new.before.now) }
     ensures swept { result ≡ false → (q : ℕ) → marked marks.new q ≡ residual_side (P.Plan.digraph plan.old) (carried flow.now) from q }
     ensures missed { result ≡ false → IfSome goal (λ t. residual_side (P.Plan.digraph plan.old) (carried flow.now) from t ≡ false) }

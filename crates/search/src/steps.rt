@@ -1,5 +1,6 @@
 // The steps out of a node to nodes that are not marked yet, one after another: along an arc on
-// which the flow leaves room, and back along the flow.
+// which the flow leaves room, and back along the flow. They are two functions: the first asks the
+// plan and the flow's room, the second the flow's rows. Each leaps, which a `for` would not.
 ghost use Rattle.std.specs.Prelude.{◌≡◌, ◌+◌, ◌-◌, ◌<◌, ◌≤◌, not};
 ghost use Rattle.graph.specs.Graph.{first};
 ghost use Rattle.rows.specs.Flow.{carried};
@@ -26,7 +27,8 @@ fn unmarked_above(marks: &Marks, q: u16, n: u16) -> Option<u16>
 }
 
 // The lowest node from w up that is not marked and to which an arc with room leads from p. Where
-// an arc leads to a marked node, the marked nodes above it are leapt over.
+// an arc leads to a marked node, the marked nodes above it are leapt over. The number of nodes is
+// passed, so that it is asked for once a search.
 pub(crate) fn next_along<P: Plan>(
     plan: &mut P,
     flow: &Arcs<'_>,

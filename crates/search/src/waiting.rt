@@ -10,7 +10,8 @@ pub trait Waiting: Copy + Drop {
     // The node that waits.
     ghost node: { Self → ℕ };
 
-    // The item of a node q that was found from p, along an arc or back along the flow.
+    // The item of a node q that was found from p, along an arc or back along the flow. No `From`: the
+    // clause ties the item to its node.
     fn made(q: u16, p: u16, forwards: bool) -> Self
         ensures { node result ≡ q };
 

@@ -22,7 +22,8 @@ pub struct Planner<S> {
     layer: Strike<S>,
 }
 
-// As a map, a planner is the graph in force.
+// As a map, a planner is the graph in force. The questions are passed on one by one: no form of
+// the language passes a trait on to a field.
 impl<S: Editable> Map for Planner<S> {
     ghost graph = { λ p. in_force (model_of S.Map.graph S.Editable.most p) };
 
@@ -103,8 +104,9 @@ fn later_make(n: u16) -> Refusal
     Refusal::OutOfTurn
 }
 
-// Performs one call on a planner, and keeps the law: a session that was sound stays sound
-// with this call and what it returned, whatever memory was lent.
+// Performs one call on a planner, as `act` does, and keeps the law, which needs no more than what `act`
+// promises: a session that was sound stays sound with this call and what it returned, whatever memory
+// was lent.
 pub fn perform<S: Editable>(planner: &mut Planner<S>, call: Call) -> Result<Answer, Refusal>
     ensures right { (lent : Lent) → Right lent (made (model_of S.Map.graph S.Editable.most planner.old)) call result }
     ensures after { (lent : Lent) → made (model_of S.Map.graph S.Editable.most planner.new) ≡ after lent (made (model_of S.Map.graph S.Editable.most planner.old)) call }

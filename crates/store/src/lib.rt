@@ -28,7 +28,7 @@ pub fn check_ends(n: u16, u: Vertex, v: Vertex) -> Result<(), Refusal>
 
 // A store of a map. A question is answered from the meaning alone and changes nothing; of a
 // number that is no vertex the answers are no, 0 and none. Questions take the store for
-// writing, since some stores lend parts of their memory on.
+// writing, so that a store may lend parts of its memory on.
 pub trait Map {
     // The graph that a store means.
     ghost graph: { Self → Graph };
@@ -40,7 +40,7 @@ pub trait Map {
         ensures value { result ≡ (graph self.old).order }
         ensures same { self.new ≡ self.old };
 
-    // Whether an edge joins u and v.
+    // Whether an edge joins u and v. Two arguments and no pair, as graph libraries ask it.
     fn joined(&mut self, u: Vertex, v: Vertex) -> bool
         ensures value { result ≡ (graph self.old).joined u v }
         ensures same { self.new ≡ self.old };

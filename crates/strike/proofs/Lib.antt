@@ -1,4 +1,2 @@
 pub mod Pairs
 pub mod Walks
-pub mod Fresh
-pub mod Replies

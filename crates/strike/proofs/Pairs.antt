@@ -2,25 +2,21 @@
 use Rattle.std.proofs.Common.{◌≡◌, ℕ, ◌+◌, ◌<◌, ◌≤◌, Bool, true, false, not, ◌&&◌, ◌||◌, eqb, ltb, List, [], ◌∷◌, ◌++◌, length, sym, refl, ap, ◌∙◌, ap₂, ⊎_elim, arith, IsPermutation, IsSome, Some, get_or}
 use mathlib.Core.Path.{fun_ext}
 use Rattle.std.specs.List.{position, position_or_len, swap_remove}
+use Rattle.std.proofs.Math.Bool.{or-false, or_comm}
 use Rattle.std.proofs.lemmas.Bool.Decides.{nat_tests}
-use Rattle.std.proofs.lemmas.Bool.{cases_Bool, true≢false, lt-ltb}
-use Rattle.std.proofs.lemmas.List.Folds.{list_any-append}
+use Rattle.std.proofs.lemmas.Bool.{cases_Bool, cases_lt, true≢false, lt-ltb}
+use Rattle.std.proofs.lemmas.List.Folds.{list_any-append, list_any_none}
 use Rattle.std.proofs.lemmas.List.Sorted.{list_any-IsPermutation, IsPermutation-swap_remove}
 use Rattle.std.proofs.lemmas.List.Quantifiers.{position-Some}
+use Rattle.std.proofs.lemmas.List.Sums.{fails_before_first}
 use Rattle.graph.specs.Graph.{order_limit, same_edge, edges_below, added, removed}
 use Rattle.graph.proofs.Edges.{same_edge_ends, edges_none, edges_ext, edges_added}
 use Rattle.strike.specs.Struck.{listed, listed_swap}
 
--- A test that fails adds nothing.
-or_none : (a : Bool) → (a || false) ≡ a
-or_none true = refl
-or_none false = refl
-
 -- A pair at the end lists its edge besides.
 pub listed_push : (ps : List (ℕ × ℕ)) (u v : ℕ) → listed (ps ++ ((u, v) ∷ [])) ≡ added (listed ps) u v
 listed_push ps u v =
-    fun_ext (λ a. fun_ext (λ b.
-    list_any-append (λ (p : ℕ × ℕ). same_edge p.0 p.1 a b) ps ((u, v) ∷ []) ∙ ap (λ (x : Bool). listed ps a b || x) (or_none (same_edge u v a b))))
+    fun_ext (λ a. fun_ext (λ b. simp (list_any-append, or-false)))
 
 -- What holds of an edge holds of its ends in either order.
 either_way : (j : ℕ → ℕ → Bool) → ((a b : ℕ) → j a b ≡ j b a) → (u v a b : ℕ) (x : Bool) → j u v ≡ x → same_edge u v a b ≡ true → j a b ≡ x
@@ -32,28 +28,15 @@ either_way j even u v a b x h s =
 
 -- A test that holds only where the other does adds nothing to it.
 or_idle : (p s : Bool) → (s ≡ true → p ≡ true) → (p || s) ≡ p
-or_idle true s h = refl
-or_idle false true h = sym (h refl)
-or_idle false false h = refl
+or_idle p s h = grind (arith, cases_Bool)
 
--- The order of two tests does not matter.
-or_swap : (p q : Bool) → (p || q) ≡ (q || p)
-or_swap true true = refl
-or_swap true false = refl
-or_swap false true = refl
-or_swap false false = refl
+-- A test that never holds where the other does can be added to it and taken off again.
+or_undone : (p s : Bool) → (s ≡ true → p ≡ false) → ((p || s) && not s) ≡ p
+or_undone p s h = grind (arith, cases_Bool)
 
 -- Whether x and y are two different numbers below n.
 abbrev apart_below : ℕ → ℕ → ℕ → Bool
 apart_below n x y = ltb x n && (ltb y n && not (eqb x y))
-
--- What that test says.
-apart_facts : (n x y : ℕ) → apart_below n x y ≡ true → (x < n) × ((y < n) × (x ≡ y → ⊥))
-apart_facts n x y h = (grind (arith, nat_tests), (grind (arith, nat_tests), λ e. grind (arith, nat_tests)))
-
--- An edge below n has two different ends below n.
-apart_ends : (n x y a b : ℕ) → a < n → b < a → same_edge x y a b ≡ true → apart_below n x y ≡ true
-apart_ends n x y a b la lb s = grind (arith, nat_tests)
 
 -- One pair more is at most one edge more.
 one_more : (n x y : ℕ) (j : ℕ → ℕ → Bool) → ((a b : ℕ) → j a b ≡ j b a) → edges_below n (added j x y) ≤ edges_below n j + 1
@@ -61,8 +44,8 @@ one_more n x y j even =
     ⊎_elim
     (λ on. idle (λ a b la lb s. either_way j even x y a b true on s))
     (λ off. ⊎_elim
-    (λ ok. let f = apart_facts n x y ok in omega (arith, edges_added n j x y f.0 f.1.0 f.1.1 off (even y x ∙ off)))
-    (λ out. idle (λ a b la lb s. let t = apart_ends n x y a b la lb s in grind arith))
+    (λ ok. omega (arith, edges_added n j x y (grind (arith, nat_tests)) (grind (arith, nat_tests)) (λ e. grind (arith, nat_tests)) off (even y x ∙ off)))
+    (λ out. idle (λ a b la lb s. grind (arith, nat_tests)))
     (cases_Bool (apart_below n x y)))
     (cases_Bool (j x y))
   where
@@ -74,7 +57,7 @@ edges_listed : (n : ℕ) (ps : List (ℕ × ℕ)) → edges_below n (listed ps) 
 edges_listed n [] = omega (arith, edges_none n (listed []) (λ _ _. refl))
 edges_listed n (p ∷ ps) =
     let turned : edges_below n (listed (p ∷ ps)) ≡ edges_below n (added (listed ps) p.0 p.1) =
-    edges_ext n (listed (p ∷ ps)) (added (listed ps) p.0 p.1) (λ a b la lb. or_swap (same_edge p.0 p.1 a b) (listed ps a b)) in
+    edges_ext n (listed (p ∷ ps)) (added (listed ps) p.0 p.1) (λ a b la lb. or_comm (same_edge p.0 p.1 a b) (listed ps a b)) in
     omega (arith, turned, one_more n p.0 p.1 (listed ps) (listed_swap ps), edges_listed n ps)
 
 -- Pairs that list as many edges as they are, one of them the edge between u and v, and the others in
@@ -89,7 +72,7 @@ module _ (old new : List (ℕ × ℕ)) (p : ℕ × ℕ) (u v : ℕ) (same : IsPe
   old_is : (a b : ℕ) → listed old a b ≡ added (listed new) u v a b
   old_is a b =
       list_any-IsPermutation (λ (q : ℕ × ℕ). same_edge q.0 q.1 a b) old (p ∷ new) same
-      ∙ or_swap (same_edge p.0 p.1 a b) (listed new a b)
+      ∙ or_comm (same_edge p.0 p.1 a b) (listed new a b)
       ∙ ap (λ (x : Bool). listed new a b || x) (at_is p.0 p.1 a b here)
 
   -- It is not among the others: they would list one edge too many.
@@ -108,30 +91,20 @@ module _ (old new : List (ℕ × ℕ)) (p : ℕ × ℕ) (u v : ℕ) (same : IsPe
   one_cleared =
       fun_ext (λ a. fun_ext (λ b. sym (
       ap (λ (x : Bool). x && not (same_edge u v a b)) (old_is a b)
-      ∙ left (listed new a b) (same_edge u v a b) (either_way (listed new) (listed_swap new) u v a b false gone))))
-    where
-      left : (p s : Bool) → (s ≡ true → p ≡ false) → ((p || s) && not s) ≡ p
-      left true true h = sym (h refl)
-      left true false h = refl
-      left false true h = refl
-      left false false h = refl
+      ∙ or_undone (listed new a b) (same_edge u v a b) (either_way (listed new) (listed_swap new) u v a b false gone))))
 
 -- Whether a pair is the edge between u and v.
 abbrev pub is_edge : ℕ → ℕ → (ℕ × ℕ) → Bool
 is_edge u v p = same_edge p.0 p.1 u v
 
--- A listed edge has a first pair, below the length.
-listed_first : (ps : List (ℕ × ℕ)) (u v : ℕ) → listed ps u v ≡ true → position_or_len (is_edge u v) ps < length ps
-listed_first [] u v h = let z : ⊥ = true≢false (sym h) in absurd z
-listed_first (p ∷ ps) u v h =
-    ⊎_elim
-    (λ e. rw e (omega arith))
-    (λ e. let r = listed_first ps u v (sym (ap (λ (x : Bool). x || listed ps u v) e) ∙ h) in rw e (omega (arith, r)))
-    (cases_Bool (same_edge p.0 p.1 u v))
-
--- So it is found.
+-- A listed edge is found: if every pair failed, none would list it.
 pub listed_found : (ps : List (ℕ × ℕ)) (u v : ℕ) → listed ps u v ≡ true → IsSome (position (is_edge u v) ps)
-listed_found ps u v h = rw (lt-ltb (position_or_len (is_edge u v) ps) (length ps) (listed_first ps u v h)) refl
+listed_found ps u v h =
+    let edge = is_edge u v in
+    ⊎_elim
+    (λ l. rw (lt-ltb (position_or_len edge ps) (length ps) l) refl)
+    (λ l. absurd (true≢false (sym h ∙ list_any_none edge ps (λ k d m. fails_before_first edge ps k d (omega arith)))))
+    (cases_lt (position_or_len edge ps) (length ps))
 
 -- The found pair is cleared by the last one in its place: the pairs then list every edge but that one.
 pub cleared : (pairs new : List (ℕ × ℕ)) (x : ℕ × ℕ) (at u v : ℕ) → position (is_edge u v) pairs ≡ Some at → x ≡ get_or pairs at x

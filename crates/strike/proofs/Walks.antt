@@ -26,8 +26,6 @@ module _ (g : Graph) (ps : List (ℕ × ℕ)) (u w from : ℕ) (inv : next (with
       let struck : listed ps u v ≡ true = sym is ∙ on in
       let f = first_some (g.joined u) from g.order v (sym e) in
       let q = (without g ps).joined u in
-      let low = f.from in
-      let high = f.below in
       let split : g.order - from ≡ (v + 1 - from) + (g.order - (v + 1)) = omega arith in
       let at : from + (v + 1 - from) ≡ v + 1 = omega arith in
       let here : q v ≡ false = rw struck in

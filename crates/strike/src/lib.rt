@@ -38,7 +38,8 @@ impl<S: Editable> Map for Strike<S> {
         !self.marks.has(u, v) && self.store.joined(u, v)
     }
 
-    // The number of neighbours of u, by asking for each vertex.
+    // The number of neighbours of u, by asking for each vertex. A `for` and no chain: a proof knows
+    // nothing of the layer after a `count` whose closure has it for writing.
     fn degree(&mut self, u: Vertex) -> u16 {
         let n = self.store.order();
         let mut d = 0;
@@ -50,7 +51,8 @@ impl<S: Editable> Map for Strike<S> {
         d
     }
 
-    // The lowest neighbour of u that is w or more: the store's, past those that are struck.
+    // The lowest neighbour of u that is w or more: the store's, past those that are struck. The loop
+    // leaps by the store's own answers.
     fn next(&mut self, u: Vertex, w: Vertex) -> Option<Vertex> {
         let mut from = w;
         while let Some(v) = self.store.next(u, from) {

@@ -40,7 +40,7 @@ pub struct Marks {
 }
 
 impl Marks {
-    // No edge noted.
+    // No edge noted. No derived `Default`, whose contract would not say so.
     pub(crate) fn none() -> Marks
         ensures { result.pairs.items ≡ [] }
     {

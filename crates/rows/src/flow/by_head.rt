@@ -1,4 +1,5 @@
-// What a search and a flow ask of a set of arcs, and the writes.
+// What a search and a flow ask of a set of arcs, and the writes. That a set lies over the same words
+// after a write (`same_reference`), as many (`size`), has to be said of each.
 ghost use Rattle.std.specs.Prelude.{◌≡◌, ℕ, ◌+◌, ◌-◌, ◌*◌, ◌<◌, ◌≤◌, true, false, length};
 ghost use Rattle.graph.specs.Graph.{first};
 ghost use Rattle.bits.specs.Bits.{has};
@@ -16,7 +17,6 @@ const ROWS: u16 = 512;
 impl<'a> Arcs<'a> {
     // The arcs that the words say.
     pub fn over(words: &'a mut [u64]) -> Arcs<'a>
-        requires { 3216 ≤ length words.old }
         ensures words { result.words.now ≡ words.old }
         ensures same_reference { result.words.ghost_name ≡ words.entry.ghost_name }
     {
@@ -28,6 +28,7 @@ impl<'a> Arcs<'a> {
     pub fn wipe(&mut self)
         ensures arcs { carried self.new ≡ (λ x y. false) }
         ensures same_reference { self.new.words.ghost_name ≡ self.old.words.ghost_name }
+        ensures size { length self.new.words.now ≡ length self.old.words.now }
     {
         self.words.fill(0);
     }
@@ -59,16 +60,19 @@ impl<'a> Arcs<'a> {
         ensures put { on ≡ true → carried self.new ≡ with_arc (carried self.old) q p }
         ensures taken { on ≡ false → carried self.new ≡ without_arc (carried self.old) q p }
         ensures same_reference { self.new.words.ghost_name ≡ self.old.words.ghost_name }
+        ensures size { length self.new.words.now ≡ length self.old.words.now }
     {
         let at = ROW_WORDS * p as usize;
         bits::set(&mut self.words[at..at + ROW_WORDS], q, on);
     }
 
-    // Puts the arc from q to p in.
+    // Puts the arc from q to p in. Two names, as a set has insert and remove. The place is asked
+    // of each, since it depends on the arc and can't be a fact about the set.
     pub fn put(&mut self, q: u16, p: u16)
         requires { (8 * p + 8 ≤ length self.old.words.now) × ((q < 448) × (p < 512)) }
         ensures arcs { carried self.new ≡ with_arc (carried self.old) q p }
         ensures same_reference { self.new.words.ghost_name ≡ self.old.words.ghost_name }
+        ensures size { length self.new.words.now ≡ length self.old.words.now }
     {
         self.write(q, p, true);
     }
@@ -78,6 +82,7 @@ impl<'a> Arcs<'a> {
         requires { (8 * p + 8 ≤ length self.old.words.now) × ((q < 448) × (p < 512)) }
         ensures arcs { carried self.new ≡ without_arc (carried self.old) q p }
         ensures same_reference { self.new.words.ghost_name ≡ self.old.words.ghost_name }
+        ensures size { length self.new.words.now ≡ length self.old.words.now }
     {
         self.write(q, p, false);
     }
@@ -90,7 +95,8 @@ impl<'a> Arcs<'a> {
         bits::next(self.row(p), true, w)
     }
 
-    // The lowest tail from w up of an arc to p.
+    // The lowest tail from w up of an arc to p. An `if` and no `then_some`, since a row is only there
+    // for a head below the limit.
     pub fn next_tail(&self, p: u16, w: u16) -> Option<u16>
         ensures { result ≡ first (λ q. carried self.now q p) w (448 - w) }
     {

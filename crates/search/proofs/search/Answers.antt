@@ -1,13 +1,13 @@
-use Rattle.std.proofs.Common.{◌≡◌, ℕ, ◌+◌, ◌<◌, true, List, [], ◌∷◌, ◌++◌, map, length, sym, refl, ap, ◌∙◌, arith}
+use Rattle.std.proofs.Common.{◌≡◌, ℕ, ◌+◌, ◌<◌, List, [], ◌∷◌, ◌++◌, map, length, sym, refl, ap, ◌∙◌, arith}
 use Rattle.std.proofs.lemmas.List.{length-map}
-use Rattle.std.proofs.lemmas.Bool.{both_ways}
+use Rattle.std.proofs.lemmas.Bool.{or_left}
 use Rattle.graph.proofs.Firsts.{Found}
 use Rattle.rows.specs.Flow.{carried}
 use Rattle.rows.specs.Marks.{marked}
 use Rattle.search.specs.Steps.{along, back, fresh}
 use Rattle.search.proofs.States.{unmarked, begun, ended, missed}
-use Rattle.search.proofs.Turns.{Turn, back_all, found_along, found_back, roomy_along, roomy_back, by_along, by_back}
-use Rattle.search.proofs.Lines.{each, first_marks, along_found, found_at, none_at, nodes_at, state_at, trail_at, taken_first, arcs_done}
+use Rattle.search.proofs.Turns.{Turn, back_all, along_step, found, has_room, by_along, by_back}
+use Rattle.search.proofs.Lines.{each, first_marks, along_found, found_at, none_at, taken_first, arcs_done, lies_on, lies_over}
 use Rattle.search.proofs.search.Given as given
 use Rattle.search.proofs.search.Goals as goal
 use Rattle.search.proofs.search.Goals.{After-next_along, In-Some-next_along, After-next_back, In-Some-next_back}
@@ -31,11 +31,11 @@ next_ahead g c = along_found g.P.Plan.digraph c.along.invariant.0 _ _ _ _ c.sear
 -- There is room to note the node before it.
 wide_ahead : (g : given.Over) (c : In-Some-next_along g) → c.in-Some-next_along.q < length c.along.notes.before.now
 wide_ahead g c =
-    omega (arith, (next_ahead g c).below, g.P.Plan.small c.search.plan, c.along.notes.fits)
+    omega (arith, (next_ahead g c).below, g.P.Plan.small c.search.plan, c.requires.memory, c.search.invariant.5.1, c.along.invariant.5.1)
 
 -- The arcs of the node have been looked at, and the plan is as it was.
 nodes_behind : (g : given.Over) (c : After-next_back g) → c.node_count-n.result ≡ (g.P.Plan.digraph c.next_along.new.plan).nodes
-nodes_behind g c = nodes_at g.P.Plan.digraph (c.in_default-next_along.ensures.same ∙ c.along.invariant.0) c.search.invariant.2
+nodes_behind g c = rw (c.in_default-next_along.ensures.same, c.along.invariant.0) c.search.invariant.2
 
 -- While the flow is looked at, a node is, with all its arcs, and with the flow up to the next.
 turn_behind : (g : given.Over) (c : After-next_back g)
@@ -58,30 +58,30 @@ next_behind g c = found_at _ _ (nodes_behind g (goal.at.In-Some-next_back g c).A
 wide_behind : (g : given.Over) (c : In-Some-next_back g) → c.in-Some-next_back.q < length c.back.notes.before.now
 wide_behind g c =
     let small = g.P.Plan.small c.next_along.new.plan in
-    omega (arith, (next_behind g c).below, small, c.back.notes.fits)
+    omega (arith, (next_behind g c).below, small, c.requires.memory, c.search.invariant.5.1, c.along.invariant.5.1, c.back.invariant.3.1)
 
 pub search-init : goal.search-init
 search-init g c =
-    let same = sym c.node_count-n.ensures.same in
+    let same = c.node_count-n.ensures.same in
     let alone = ap (λ (z : List g.row.E.Denot). map g.E.Waiting.node z ++ (c.args.from ∷ [])) c.new-line.ensures.items in
     let marks = first_marks c.args.from c.clear.ensures c.enter.ensures.marks in (
       refl,
       refl,
-      c.node_count-n.ensures.value ∙ ap (λ (x : g.row.P.Denot). (g.P.Plan.digraph x).nodes) same,
+      rw same c.node_count-n.ensures.value,
       omega (arith, c.enter.ensures.room, c.new-line.ensures.room, c.args.slots.now.fits),
-      state_at g.P.Plan.digraph same (begun c.requires.start marks c.requires.goal (c.enter.ensures.nodes ∙ alone)),
+      rw same (begun c.requires.start marks c.requires.goal (c.enter.ensures.nodes ∙ alone)),
+      (refl, refl),
     )
 
 pub note-requires : goal.note-requires
-note-requires g c =
-    omega (arith, (next_ahead g (goal.at.note-requires g c).In-Some-next_along).below, g.P.Plan.small c.search.plan)
+note-requires g c = wide_ahead g (goal.at.note-requires g c).In-Some-next_along
 
 pub enter-requires-in-Some-next_along : goal.enter-requires-in-Some-next_along
 enter-requires-in-Some-next_along g c =
     let at = goal.at.enter-requires-in-Some-next_along g c in
     let o = next_ahead g at.In-Some-next_along in
     let small = g.P.Plan.small c.search.plan in
-    let roomy = roomy_along (turn_ahead g at.After-next_along) (wide_ahead g at.In-Some-next_along) refl o in (
+    let roomy = has_room (turn_ahead g at.After-next_along) (wide_ahead g at.In-Some-next_along) refl _ o (along_step _ _ _ _) in (
       omega (arith, o.below, small),
       omega (arith, roomy, small, c.along.invariant.3, length-map c.along.line.items g.E.Waiting.node),
     )
@@ -100,22 +100,22 @@ along-preserved g c =
     let same = c.in-Some-next_along.ensures.same ∙ c.along.invariant.0 in (
       same,
       c.along.invariant.1,
-      nodes_at g.P.Plan.digraph same c.search.invariant.2,
+      rw same c.search.invariant.2,
       omega (arith, c.enter-in-Some-next_along.ensures.room, c.along.invariant.3),
       λ _. by_along (turn_ahead g at.After-next_along) (wide_ahead g at.In-Some-next_along) c.note.ensures.notes (each c.enter-in-Some-next_along.ensures.marks)
           c.enter-in-Some-next_along.ensures.nodes (sym c.is_goal.ensures ∙ c.if-is_goal.false) (next_ahead g at.In-Some-next_along),
+      lies_on c.along.notes c.note.new.self c.search.notes c.in-Some-next_along.q c.node-p.result c.note.ensures.notes c.note.ensures.same_reference c.along.invariant.5,
     )
 
 pub note-requires-in-Some-next_back : goal.note-requires-in-Some-next_back
-note-requires-in-Some-next_back g c =
-    omega (arith, (next_behind g (goal.at.note-requires-in-Some-next_back g c).In-Some-next_back).below, g.P.Plan.small c.next_along.new.plan)
+note-requires-in-Some-next_back g c = wide_behind g (goal.at.note-requires-in-Some-next_back g c).In-Some-next_back
 
 pub enter-requires-in-Some-next_back : goal.enter-requires-in-Some-next_back
 enter-requires-in-Some-next_back g c =
     let at = goal.at.enter-requires-in-Some-next_back g c in
     let o = next_behind g at.In-Some-next_back in
     let small = g.P.Plan.small c.next_along.new.plan in
-    let roomy = roomy_back (turn_behind g at.After-next_back) (wide_behind g at.In-Some-next_back) refl o in (
+    let roomy = has_room (turn_behind g at.After-next_back) (wide_behind g at.In-Some-next_back) refl _ o (or_left _ _) in (
       omega (arith, o.below, small),
       omega (arith, roomy, small, c.back.invariant.1, length-map c.back.line.items g.E.Waiting.node),
     )
@@ -137,6 +137,8 @@ back-preserved g c =
       λ _. by_back (turn_behind g at.After-next_back) (wide_behind g at.In-Some-next_back) c.note-in-Some-next_back.ensures.notes (each c.enter-in-Some-next_back.ensures.marks)
           c.enter-in-Some-next_back.ensures.nodes (sym c.is_goal-in-Some-next_back.ensures ∙ c.if-is_goal-2.false)
           (next_behind g at.In-Some-next_back),
+      lies_on c.back.notes c.note-in-Some-next_back.new.self c.along.notes c.in-Some-next_back.q c.node-p.result c.note-in-Some-next_back.ensures.notes c.note-in-Some-next_back.ensures.same_reference
+          c.back.invariant.3,
     )
 
 pub search-smaller : goal.search-smaller
@@ -156,44 +158,32 @@ search-preserved g c =
       c.back.invariant.0,
       nodes,
       c.back.invariant.1,
-      state_at g.P.Plan.digraph same (back_all (turn_behind g at.After-next_back) nodes (none_at _ _ nodes c.in_default-next_back.ensures)),
+      rw (← same) (back_all (turn_behind g at.After-next_back) nodes (none_at _ _ nodes c.in_default-next_back.ensures)),
+      lies_over c.back.notes c.along.notes c.args.notes.now c.back.invariant.3
+          (lies_over c.along.notes c.search.notes c.args.notes.now c.along.invariant.5 c.search.invariant.5),
     )
 
-pub returns-then-is_goal : goal.returns-then-is_goal
-returns-then-is_goal g c =
-    let at = goal.at.returns-then-is_goal g c in
+pub returns-then-is_goal-clause-found : goal.returns-then-is_goal-clause-found
+returns-then-is_goal-clause-found g c _ =
+    let at = goal.at.returns-then-is_goal-clause-found g c in
     let same = c.search.invariant.0 ∙ c.node_count-n.ensures.same in
-    record {
-      same = c.in-Some-next_along.ensures.same ∙ c.along.invariant.0 ∙ same;
-      found = λ _. trail_at g.P.Plan.digraph same (carried c.args.flow.now) c.args.from c.args.goal
-          c.note.new.self.before.now
-          (found_along (turn_ahead g at.After-next_along) (wide_ahead g at.In-Some-next_along) c.note.ensures.notes (next_ahead g at.In-Some-next_along)
-          (sym c.is_goal.ensures ∙ c.if-is_goal.true));
-      swept = λ z. absurd (both_ways true z refl);
-      missed = λ z. absurd (both_ways true z refl);
-    }
+    rw (← same)
+    (found (turn_ahead g at.After-next_along) (wide_ahead g at.In-Some-next_along) c.note.ensures.notes _ (next_ahead g at.In-Some-next_along)
+    (along_step _ _ _ _) (sym c.is_goal.ensures ∙ c.if-is_goal.true))
 
-pub returns-then-is_goal-2 : goal.returns-then-is_goal-2
-returns-then-is_goal-2 g c =
-    let at = goal.at.returns-then-is_goal-2 g c in
+pub returns-then-is_goal-2-clause-found : goal.returns-then-is_goal-2-clause-found
+returns-then-is_goal-2-clause-found g c _ =
+    let at = goal.at.returns-then-is_goal-2-clause-found g c in
     let same = c.in_default-next_along.ensures.same ∙ c.along.invariant.0 ∙ c.search.invariant.0 ∙ c.node_count-n.ensures.same in
-    record {
-      same = same;
-      found = λ _. trail_at g.P.Plan.digraph same (carried c.args.flow.now) c.args.from c.args.goal
-          c.note-in-Some-next_back.new.self.before.now
-          (found_back (turn_behind g at.After-next_back) (wide_behind g at.In-Some-next_back) c.note-in-Some-next_back.ensures.notes (next_behind g at.In-Some-next_back)
-          (sym c.is_goal-in-Some-next_back.ensures ∙ c.if-is_goal-2.true));
-      swept = λ z. absurd (both_ways true z refl);
-      missed = λ z. absurd (both_ways true z refl);
-    }
+    rw (← same)
+    (found (turn_behind g at.After-next_back) (wide_behind g at.In-Some-next_back) c.note-in-Some-next_back.ensures.notes _ (next_behind g at.In-Some-next_back)
+    (or_left _ _) (sym c.is_goal-in-Some-next_back.ensures ∙ c.if-is_goal-2.true))
 
-pub returns-in_default : goal.returns-in_default
-returns-in_default g c =
-    let st = state_at g.P.Plan.digraph c.node_count-n.ensures.same c.search.invariant.4 in
-    let empty = ap (map g.E.Waiting.node) c.in_default.ensures.items in
-    record {
-      same = c.search.invariant.0 ∙ c.node_count-n.ensures.same;
-      found = λ z. absurd (both_ways c.search.found c.search.invariant.1 z);
-      swept = λ _. ended empty st;
-      missed = λ _. missed empty st;
-    }
+-- Nothing waits any more.
+pub returns-in_default-clause-swept : goal.returns-in_default-clause-swept
+returns-in_default-clause-swept g c _ =
+    rw (← c.node_count-n.ensures.same) (ended (ap (map g.E.Waiting.node) c.in_default.ensures.items) c.search.invariant.4)
+
+pub returns-in_default-clause-missed : goal.returns-in_default-clause-missed
+returns-in_default-clause-missed g c _ =
+    rw (← c.node_count-n.ensures.same) (missed (ap (map g.E.Waiting.node) c.in_default.ensures.items) c.search.invariant.4)

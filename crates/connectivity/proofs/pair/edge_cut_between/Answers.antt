@@ -1,14 +1,9 @@
--- An accepted question has two vertices, enough work memory, and room for every cut.
-use Rattle.std.proofs.Common.{◌-◌, sym, ap, ◌∙◌, arith, length-take}
+-- An accepted question has room for every cut.
+use Rattle.std.proofs.Common.{sym, ap, ◌∙◌, arith}
 use Rattle.connectivity.specs.declared.work.Sizes.{Sizes}
 use Rattle.connectivity.specs.Asking.{ends_reply}
-use Rattle.connectivity.proofs.Accepted.{enough_words, edge_room}
+use Rattle.connectivity.proofs.Accepted.{edge_room}
 use Rattle.connectivity.proofs.pair.edge_cut_between.Goals as goal
-
-pub over-flow-requires : goal.over-flow-requires
-over-flow-requires g c =
-    let enough = enough_words c.sizes-sizes.result (g.M.Map.graph c.args.line.now.map) c.args.a c.args.b c.in_ok-check_ends.ensures.reply in
-    omega (arith, enough, ap (λ (s : Sizes). s.words) c.sizes-sizes.ensures, length-take (4096 - 0) c.args.work.words.now)
 
 pub settle-requires-clause-room : goal.settle-requires-clause-room
 settle-requires-clause-room g c =

@@ -1,6 +1,5 @@
 use Rattle.std.proofs.Common.{sym, ◌∙◌, arith}
-use Rattle.std.proofs.lemmas.Bool.{not-true, not-false}
-use Rattle.graph.proofs.Firsts.{Found, first_some, first_all}
+use Rattle.graph.proofs.Firsts.{Found, first_some}
 use Rattle.rows.specs.Flow.{carried}
 use Rattle.search.specs.Steps.{along}
 use Rattle.search.proofs.Fresh.{fresh_off, hit, on, none, leap, leap_none, along_only, along_full, along_from, arc_found, arc_none}
@@ -21,7 +20,7 @@ returns-in_err-v-clause-value g c =
     let only = along_only (g.P.Plan.digraph c.args.plan.now) (carried c.args.flow.now) c.args.p in
     let f = next g (goal.at.returns-in_err-v-clause-value g c).In-Some in
     c.from_residual.ensures
-    ∙ leap_none c.loop-q.invariant.1 only f (sym c.has.ensures ∙ c.if-has.true) (first_all _ _ _ (sym c.in_err-v.ensures))
+    ∙ leap_none c.loop-q.invariant.1 only c.args.n f c.has.ensures c.if-has.true c.in_err-v.ensures
 
 pub loop-q-smaller-then-has : goal.loop-q-smaller-then-has
 loop-q-smaller-then-has g c =
@@ -33,16 +32,15 @@ pub loop-q-preserved-then-has : goal.loop-q-preserved-then-has
 loop-q-preserved-then-has g c =
     let only = along_only (g.P.Plan.digraph c.args.plan.now) (carried c.args.flow.now) c.args.p in
     let f = next g (goal.at.loop-q-preserved-then-has g c).In-Some in
-    let u = first_some _ _ _ _ (sym c.in_ok-v.ensures) in
-    (c.in-Some.ensures.same ∙ c.loop-q.invariant.0, leap c.loop-q.invariant.1 only f (sym c.has.ensures ∙ c.if-has.true) u)
+    (c.in-Some.ensures.same ∙ c.loop-q.invariant.0, leap c.loop-q.invariant.1 only c.args.n f c.has.ensures c.if-has.true c.in_ok-v.ensures)
 
 pub returns-then-has_room-clause-value : goal.returns-then-has_room-clause-value
 returns-then-has_room-clause-value g c =
     let d = g.P.Plan.digraph c.args.plan.now in
     let flow = carried c.args.flow.now in
     let f = next g (goal.at.returns-then-has_room-clause-value g c).In-Some in
-    let free = not-true _ (sym c.has_room.ensures ∙ c.if-has_room.true) in
-    hit c.loop-q.invariant.1 (along_only d flow c.args.p) f f.below (sym c.has.ensures ∙ c.if-has.false) (along_from d flow c.args.p c.in-Some.q f.here free)
+    hit c.loop-q.invariant.1 (along_only d flow c.args.p) f f.below c.has.ensures c.if-has.false
+    (along_from d flow c.args.p c.in-Some.q f.here c.has_room.ensures c.if-has_room.true)
 
 pub overflow_add-v : goal.overflow_add-v
 overflow_add-v g c = omega (arith, (next g (goal.at.overflow_add-v g c).In-Some).below, c.ranges.n.fits)
@@ -56,11 +54,10 @@ pub loop-q-preserved : goal.loop-q-preserved
 loop-q-preserved g c =
     let d = g.P.Plan.digraph c.args.plan.now in
     let flow = carried c.args.flow.now in
-    let f = next g (goal.at.loop-q-preserved g c).In-Some in
-    let full = not-false _ (sym c.has_room.ensures ∙ c.if-has_room.false) in (
+    let f = next g (goal.at.loop-q-preserved g c).In-Some in (
       c.in-Some.ensures.same ∙ c.loop-q.invariant.0,
       on c.loop-q.invariant.1 (along_only d flow c.args.p) f
-          (fresh_off _ (along d flow c.args.p) c.in-Some.q (along_full d flow c.args.p c.in-Some.q full)),
+          (fresh_off _ (along d flow c.args.p) c.in-Some.q (along_full d flow c.args.p c.in-Some.q c.has_room.ensures c.if-has_room.false)),
     )
 
 pub returns-clause-value : goal.returns-clause-value

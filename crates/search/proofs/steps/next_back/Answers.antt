@@ -9,13 +9,12 @@ returns-then-q-n c = past c.loop-q.invariant (λ k h. h) (first_some _ _ 448 _ (
 pub returns-then-not-has : goal.returns-then-not-has
 returns-then-not-has c =
     let f = first_some _ _ 448 _ (sym c.in-Some.ensures) in
-    hit c.loop-q.invariant (λ k h. h) f c.if-q-n.false (sym c.has.ensures ∙ c.if-not-has.true) f.here
+    hit c.loop-q.invariant (λ k h. h) f c.if-q-n.false c.has.ensures c.if-not-has.true f.here
 
 pub returns-in_err-v : goal.returns-in_err-v
 returns-in_err-v c =
     let f = first_some _ _ 448 _ (sym c.in-Some.ensures) in
-    let all = first_all _ _ _ (sym c.in_err-v.ensures) in
-    c.from_residual.ensures ∙ leap_none c.loop-q.invariant (λ k h. h) f (sym c.has.ensures ∙ c.if-not-has.false) all
+    c.from_residual.ensures ∙ leap_none c.loop-q.invariant (λ k h. h) c.args.n f c.has.ensures c.if-not-has.false c.in_err-v.ensures
 
 pub loop-q-smaller : goal.loop-q-smaller
 loop-q-smaller c =
@@ -26,8 +25,7 @@ loop-q-smaller c =
 pub loop-q-preserved : goal.loop-q-preserved
 loop-q-preserved c =
     let f = first_some _ _ 448 _ (sym c.in-Some.ensures) in
-    let u = first_some _ _ _ _ (sym c.in_ok-v.ensures) in
-    leap c.loop-q.invariant (λ k h. h) f (sym c.has.ensures ∙ c.if-not-has.false) u
+    leap c.loop-q.invariant (λ k h. h) c.args.n f c.has.ensures c.if-not-has.false c.in_ok-v.ensures
 
 pub returns : goal.returns
 returns c = none c.loop-q.invariant (λ k h. h) c.requires (first_all _ _ 448 (sym c.in_default.ensures))

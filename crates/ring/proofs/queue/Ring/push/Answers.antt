@@ -1,17 +1,18 @@
-use Rattle.std.proofs.Common.{◌<◌, length, ◌++◌, ◌∷◌, [], ap, ◌∙◌, rules}
-use Rattle.ring.specs.Queue.{Queue}
-use Rattle.ring.proofs.Rings.{pushed, pushed_count}
+use Rattle.std.proofs.Common.{◌<◌, length, arith, length-set, rules}
+use lib.Seq.{drop-set-add}
+use Rattle.std.proofs.lemmas.Grind.{common_steps}
+use Rattle.std.proofs.lemmas.List.{take_more_set}
+use Rattle.ring.specs.Items.{ring_items}
 use Rattle.ring.proofs.queue.Ring.push.Goals as goal
 
+-- After an item is put in the slot behind the last one, the ring holds one more.
 pub invariant_of-self : goal.invariant_of-self
+unfolding ring_items
 invariant_of-self g c =
-    let r = c.self.inside in
-    let free : r.len < length r.slots.now = search rules in
-    pushed_count r.slots.now r.head r.len c.slot_behind-at.result c.args.x free c.self.invariant c.slot_behind-at.ensures
+    let free : c.self.inside.len < length c.self.inside.slots.now = search rules in
+    (simp length-set (omega arith), λ h. grind (arith, common_steps), grind (arith, common_steps))
 
+-- It stands at the end.
 pub returns-clause-items : goal.returns-clause-items
-returns-clause-items g c =
-    let r = c.self.inside in
-    let free : r.len < length r.slots.now = search rules in
-    pushed r.slots.now r.head r.len c.slot_behind-at.result c.args.x free c.self.invariant c.slot_behind-at.ensures
-    ∙ ap (λ (q : Queue g.row.T.Denot). q.items ++ c.args.x ∷ []) c.self.view_is
+unfolding ring_items
+returns-clause-items g c = grind (arith, common_steps, drop-set-add, take_more_set)
