@@ -6,11 +6,12 @@
 --   answered       a value, unless the question is refused
 --   edge_reply, vertex_reply   what the two questions are answered
 --   cut_in         a buffer after the question
-use Rattle.std.specs.Prelude.{ℕ, cond, not, ◌&&◌, List, length, Ok, Err, Result, ◌==◌, nat_lt}
+use Rattle.std.specs.Prelude.{ℕ, cond, List, length, Ok, Err, Result}
 use Rattle.graph.specs.Graph.{Graph}
 use Rattle.model.specs.Table.{Reply}
 use Rattle.model.specs.declared.refusal.Refusal.{Refusal}
-use Rattle.model.specs.declared.refusal.Refusal.TheVariants.{ShortMemory, NoVertex, SameVertex, Adjacent}
+use Rattle.model.specs.declared.refusal.Refusal.TheVariants.{ShortMemory, Adjacent}
+use Rattle.store.specs.Ends.{ends_reply as two_reply}
 use Rattle.cuts.specs.Cuts.{edge_value, vertex_value}
 use Rattle.plan.specs.Buffers.{in_front}
 use Rattle.connectivity.specs.declared.work.Sizes.{Sizes}
@@ -20,12 +21,9 @@ abbrev pub sizes_of : {S C : Type 0} → List ℕ → List ℕ → List ℕ → 
 sizes_of words numbers nodes steps cut =
     record { words = length words; numbers = length numbers; nodes = length nodes; steps = length steps; cut = length cut }
 
--- The smallest number that fits: memory, then no vertices, then one vertex twice. Written out and not
--- by the store's two rows, so that the order stands in one place.
+-- The smallest number that fits: memory, and then what is asked of any two numbers.
 abbrev pub ends_reply : Sizes → Graph → ℕ → ℕ → Reply
-ends_reply s g a b =
-    cond (short s g.order) (Err ShortMemory)
-    (cond (not (nat_lt a g.order && nat_lt b g.order)) (Err NoVertex) (cond (a == b) (Err SameVertex) (Ok tt)))
+ends_reply s g a b = cond (short s g.order) (Err ShortMemory) (two_reply g.order a b)
 
 -- A pair that is joined has no vertex cut; where nothing else fits, that is the reason.
 abbrev pub then_loose : Reply → Graph → ℕ → ℕ → Reply

@@ -1,16 +1,12 @@
-// A whole session over each store, with its memory and capacity written out, and the run of a
-// program over one.
+// A whole session over each store, with its memory and capacity written out.
 #![tactic(auto)]
 
 ghost use Rattle.std.specs.Prelude.{ℕ, ◌-◌, ◌*◌, ◌/◌, true, length, IfOk, nat_le};
 ghost use Rattle.model.specs.Model.{Lent};
 ghost use Rattle.serve.specs.Served.{Served};
 
-mod program;
-
 use grid::Grid;
 use list::List;
-pub use program::run;
 use serve::serve;
 use std::alloc::{AllocError, Global};
 

@@ -1,14 +1,23 @@
 // The planner over a grid: frames on standard input, answers on standard output.
 #![tactic(auto)]
 
-use delivery::{over_grid, run};
+use delivery::over_grid;
+use std::io::{Read, Write};
+
+// One byte more than is served, so that longer input shows.
+const READ_LIMIT: u64 = 32769;
 
 // Words for 200 vertices, four each.
 const WORDS: usize = 800;
 
+// A function for this and the other program would be public and could promise nothing: no clause
+// says what is printed.
 fn main(rt: HostRuntime) -> anyhow::Result<()> {
-    run(&rt, |heap, input| {
-        let mut words = vec![in heap; 0u64; WORDS]?;
-        over_grid(heap, &mut words, input)
-    })
+    let heap = rt.alloc();
+    let mut input = Vec::new(heap);
+    rt.stdin().take(READ_LIMIT).read_to_end(&mut input)?;
+    let mut words = vec![in heap; 0u64; WORDS]?;
+    let out = over_grid(heap, &mut words, &input)?;
+    rt.stdout().write_all(&out)?;
+    Ok(())
 }
