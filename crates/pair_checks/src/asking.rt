@@ -4,8 +4,6 @@ use claims::check;
 use connectivity::{CELLS, NUMBERS, WORDS, Work};
 use cuts::Edge;
 use model::{Call, Vertex};
-use pairs::{Pile, edge_cut_between, vertex_cut_between};
-use plan::{Line, Split};
 use ring::Step;
 use session::{Planner, perform};
 use std::test::Fail;
@@ -46,7 +44,7 @@ fn check_cut<T: PartialEq + Copy>(
 
 // The nearest edge cut of a pair is this one.
 pub(crate) fn check_edges<S: Editable>(
-    pile: &mut Pile<S>,
+    planner: &mut Planner<S>,
     a: Vertex,
     b: Vertex,
     cut: &[Edge],
@@ -58,13 +56,13 @@ pub(crate) fn check_edges<S: Editable>(
         nodes: &mut [0; CELLS],
         steps: &mut [NO_STEP; CELLS],
     };
-    let value = edge_cut_between(pile, a, b, work, &mut buffer)?;
+    let value = planner.edge_cut_between(a, b, work, &mut buffer)?;
     check_cut(value, &buffer, cut, NO_EDGE)
 }
 
 // The nearest vertex cut of an unjoined pair is this one.
 pub(crate) fn check_vertices<S: Editable>(
-    pile: &mut Pile<S>,
+    planner: &mut Planner<S>,
     a: Vertex,
     b: Vertex,
     cut: &[Vertex],
@@ -76,19 +74,19 @@ pub(crate) fn check_vertices<S: Editable>(
         nodes: &mut [0; CELLS],
         steps: &mut [NO_STEP; CELLS],
     };
-    let value = vertex_cut_between(pile, a, b, work, &mut buffer)?;
+    let value = planner.vertex_cut_between(a, b, work, &mut buffer)?;
     check_cut(value, &buffer, cut, NO_VERTEX)
 }
 
-// The pile over a planner of a map of n vertices with these edges.
+// A planner of a map of n vertices with these edges.
 pub(crate) fn planned<S: Editable>(
     n: u16,
     edges: &[Edge],
     memory: S::Memory,
-) -> Result<Pile<S>, Fail> {
-    let mut pile = Split::over(Line::over(Planner::<S>::open(n, memory)?));
+) -> Result<Planner<S>, Fail> {
+    let mut planner = Planner::<S>::open(n, memory)?;
     for e in edges {
-        perform(&mut pile.map.map, Call::Join(e.low, e.high))?;
+        perform(&mut planner, Call::Join(e.low, e.high))?;
     }
-    Ok(pile)
+    Ok(planner)
 }

@@ -9,48 +9,48 @@ use store::{Editable, Map};
 
 // Two vertices, unjoined.
 fn two_apart<S: Editable>(memory: S::Memory) -> Result<(), Fail> {
-    let mut pile = planned::<S>(2, &[], memory)?;
-    check_edges(&mut pile, 0, 1, &[])?;
-    check_vertices(&mut pile, 0, 1, &[])
+    let mut planner = planned::<S>(2, &[], memory)?;
+    check_edges(&mut planner, 0, 1, &[])?;
+    check_vertices(&mut planner, 0, 1, &[])
 }
 
 // Two vertices, joined: the edge between them is their cut.
 fn two_joined<S: Editable>(memory: S::Memory) -> Result<(), Fail> {
-    let mut pile = planned::<S>(2, &[edge(0, 1)], memory)?;
-    check_edges(&mut pile, 0, 1, &[edge(0, 1)])?;
-    check_edges(&mut pile, 1, 0, &[edge(0, 1)])
+    let mut planner = planned::<S>(2, &[edge(0, 1)], memory)?;
+    check_edges(&mut planner, 0, 1, &[edge(0, 1)])?;
+    check_edges(&mut planner, 1, 0, &[edge(0, 1)])
 }
 
 // A path 0-1-2: its cuts differ from end to end, the nearest to the first is told.
 fn path_of_three<S: Editable>(memory: S::Memory) -> Result<(), Fail> {
-    let mut pile = planned::<S>(3, &[edge(0, 1), edge(1, 2)], memory)?;
-    check_edges(&mut pile, 0, 2, &[edge(0, 1)])?;
-    check_edges(&mut pile, 2, 0, &[edge(1, 2)])?;
-    check_vertices(&mut pile, 0, 2, &[1])
+    let mut planner = planned::<S>(3, &[edge(0, 1), edge(1, 2)], memory)?;
+    check_edges(&mut planner, 0, 2, &[edge(0, 1)])?;
+    check_edges(&mut planner, 2, 0, &[edge(1, 2)])?;
+    check_vertices(&mut planner, 0, 2, &[1])
 }
 
 // A ring of five.
 fn ring_of_five<S: Editable>(memory: S::Memory) -> Result<(), Fail> {
-    let mut pile = planned::<S>(
+    let mut planner = planned::<S>(
         5,
         &[edge(0, 1), edge(1, 2), edge(2, 3), edge(3, 4), edge(4, 0)],
         memory,
     )?;
-    check_edges(&mut pile, 0, 1, &[edge(0, 1), edge(0, 4)])?;
-    check_edges(&mut pile, 2, 0, &[edge(1, 2), edge(2, 3)])?;
-    check_vertices(&mut pile, 0, 2, &[1, 4])?;
-    check_vertices(&mut pile, 2, 0, &[1, 3])
+    check_edges(&mut planner, 0, 1, &[edge(0, 1), edge(0, 4)])?;
+    check_edges(&mut planner, 2, 0, &[edge(1, 2), edge(2, 3)])?;
+    check_vertices(&mut planner, 0, 2, &[1, 4])?;
+    check_vertices(&mut planner, 2, 0, &[1, 3])
 }
 
 // Four vertices, all joined but 0 and 1.
 fn four_but_one<S: Editable>(memory: S::Memory) -> Result<(), Fail> {
-    let mut pile = planned::<S>(
+    let mut planner = planned::<S>(
         4,
         &[edge(0, 2), edge(0, 3), edge(1, 2), edge(1, 3), edge(2, 3)],
         memory,
     )?;
-    check_edges(&mut pile, 0, 1, &[edge(0, 2), edge(0, 3)])?;
-    check_vertices(&mut pile, 0, 1, &[2, 3])
+    check_edges(&mut planner, 0, 1, &[edge(0, 2), edge(0, 3)])?;
+    check_vertices(&mut planner, 0, 1, &[2, 3])
 }
 
 // Two triangles with an edge between them.
@@ -64,10 +64,10 @@ fn bridged_triangles<S: Editable>(memory: S::Memory) -> Result<(), Fail> {
         edge(3, 5),
         edge(4, 5),
     ];
-    let mut pile = planned::<S>(6, &edges, memory)?;
-    check_edges(&mut pile, 0, 3, &[edge(2, 3)])?;
-    check_vertices(&mut pile, 0, 3, &[2])?;
-    check_vertices(&mut pile, 5, 2, &[3])
+    let mut planner = planned::<S>(6, &edges, memory)?;
+    check_edges(&mut planner, 0, 3, &[edge(2, 3)])?;
+    check_vertices(&mut planner, 0, 3, &[2])?;
+    check_vertices(&mut planner, 5, 2, &[3])
 }
 
 // Two triangles that share a vertex.
@@ -80,14 +80,14 @@ fn shared_triangles<S: Editable>(memory: S::Memory) -> Result<(), Fail> {
         edge(2, 4),
         edge(3, 4),
     ];
-    let mut pile = planned::<S>(5, &edges, memory)?;
-    check_edges(&mut pile, 0, 1, &[edge(0, 1), edge(0, 2)])?;
-    check_vertices(&mut pile, 0, 3, &[2])
+    let mut planner = planned::<S>(5, &edges, memory)?;
+    check_edges(&mut planner, 0, 1, &[edge(0, 1), edge(0, 2)])?;
+    check_vertices(&mut planner, 0, 3, &[2])
 }
 
 // Two cliques of six, and a hub that is joined to two vertices of each; then with an edge struck.
 fn cliques_and_hub<S: Editable>(memory: S::Memory) -> Result<(), Fail> {
-    let mut pile = planned::<S>(
+    let mut planner = planned::<S>(
         13,
         &[edge(0, 12), edge(1, 12), edge(6, 12), edge(7, 12)],
         memory,
@@ -95,15 +95,15 @@ fn cliques_and_hub<S: Editable>(memory: S::Memory) -> Result<(), Fail> {
     for u in 0..12 {
         for v in u + 1..12 {
             if u / 6 == v / 6 {
-                perform(&mut pile.map.map, Call::Join(u, v))?;
+                perform(&mut planner, Call::Join(u, v))?;
             }
         }
     }
-    check_edges(&mut pile, 0, 6, &[edge(0, 12), edge(1, 12)])?;
-    check_vertices(&mut pile, 0, 6, &[12])?;
-    perform(&mut pile.map.map, Call::Strike(12, 0))?;
-    check_edges(&mut pile, 2, 11, &[edge(1, 12)])?;
-    check_vertices(&mut pile, 2, 11, &[1])
+    check_edges(&mut planner, 0, 6, &[edge(0, 12), edge(1, 12)])?;
+    check_vertices(&mut planner, 0, 6, &[12])?;
+    perform(&mut planner, Call::Strike(12, 0))?;
+    check_edges(&mut planner, 2, 11, &[edge(1, 12)])?;
+    check_vertices(&mut planner, 2, 11, &[1])
 }
 
 #[test]

@@ -4,14 +4,14 @@ use claims::check;
 use connectivity::{CELLS, NUMBERS, WORDS, Work};
 use grid::Grid;
 use model::{Refusal, Vertex};
-use pairs::{Pile, edge_cut_between, vertex_cut_between};
+use session::Planner;
 use std::test::Fail;
 use store::{Editable, Map};
 
 // What an edge question is refused with, lent so many words and so much room for a cut. Each kind of
 // question has a buffer of its own kind, so this and the next are two.
 fn edge_refusal<S: Editable>(
-    pile: &mut Pile<S>,
+    planner: &mut Planner<S>,
     a: Vertex,
     b: Vertex,
     words: &mut [u64],
@@ -27,11 +27,13 @@ fn edge_refusal<S: Editable>(
         nodes: &mut [0; CELLS],
         steps: &mut [NO_STEP; CELLS],
     };
-    edge_cut_between(pile, a, b, work, &mut buffer[0..room]).err()
+    planner
+        .edge_cut_between(a, b, work, &mut buffer[0..room])
+        .err()
 }
 
 // What a vertex question is refused with.
-fn vertex_refusal<S: Editable>(pile: &mut Pile<S>, a: Vertex, b: Vertex) -> Option<Refusal> {
+fn vertex_refusal<S: Editable>(planner: &mut Planner<S>, a: Vertex, b: Vertex) -> Option<Refusal> {
     let mut buffer = [NO_VERTEX; 2];
     let work = Work {
         words: &mut [0; WORDS],
@@ -39,20 +41,20 @@ fn vertex_refusal<S: Editable>(pile: &mut Pile<S>, a: Vertex, b: Vertex) -> Opti
         nodes: &mut [0; CELLS],
         steps: &mut [NO_STEP; CELLS],
     };
-    vertex_cut_between(pile, a, b, work, &mut buffer).err()
+    planner.vertex_cut_between(a, b, work, &mut buffer).err()
 }
 
 // A path of three vertices is asked what it can't be asked.
 fn refused<S: Editable>(memory: S::Memory) -> Result<(), Fail> {
-    let mut pile = planned::<S>(3, &[edge(0, 1), edge(1, 2)], memory)?;
+    let mut planner = planned::<S>(3, &[edge(0, 1), edge(1, 2)], memory)?;
     let mut words = [0; WORDS];
-    check(edge_refusal(&mut pile, 0, 3, &mut words, 2) == Some(Refusal::NoVertex))?;
-    check(edge_refusal(&mut pile, 1, 1, &mut words, 2) == Some(Refusal::SameVertex))?;
-    check(edge_refusal(&mut pile, 0, 1, &mut words, 2) == None)?;
-    check(edge_refusal(&mut pile, 0, 3, &mut words, 1) == Some(Refusal::ShortMemory))?;
-    check(edge_refusal(&mut pile, 0, 1, &mut [0; 4095], 2) == Some(Refusal::ShortMemory))?;
-    check(vertex_refusal(&mut pile, 3, 3) == Some(Refusal::NoVertex))?;
-    check(vertex_refusal(&mut pile, 0, 1) == Some(Refusal::Adjacent))
+    check(edge_refusal(&mut planner, 0, 3, &mut words, 2) == Some(Refusal::NoVertex))?;
+    check(edge_refusal(&mut planner, 1, 1, &mut words, 2) == Some(Refusal::SameVertex))?;
+    check(edge_refusal(&mut planner, 0, 1, &mut words, 2) == None)?;
+    check(edge_refusal(&mut planner, 0, 3, &mut words, 1) == Some(Refusal::ShortMemory))?;
+    check(edge_refusal(&mut planner, 0, 1, &mut [0; 4095], 2) == Some(Refusal::ShortMemory))?;
+    check(vertex_refusal(&mut planner, 3, 3) == Some(Refusal::NoVertex))?;
+    check(vertex_refusal(&mut planner, 0, 1) == Some(Refusal::Adjacent))
 }
 
 #[test]

@@ -8,8 +8,6 @@ use cuts::Edge;
 use frames::read_call;
 use grid::Grid;
 use model::{Call, Vertex};
-use pairs::{Pile, edge_cut_between, vertex_cut_between};
-use plan::{Line, Split};
 use ring::Step;
 use session::{Planner, perform};
 use std::io::Read;
@@ -86,7 +84,7 @@ impl Sums {
     // Adds one pair: two questions with buffers of two kinds, so the halves are written out.
     fn add_pair<S: Editable>(
         &mut self,
-        pile: &mut Pile<S>,
+        planner: &mut Planner<S>,
         memory: &mut Memory,
         a: Vertex,
         b: Vertex,
@@ -104,7 +102,7 @@ impl Sums {
             nodes: &mut *nodes,
             steps: &mut *steps,
         };
-        if let Ok(value) = edge_cut_between(pile, a, b, work, &mut edges) {
+        if let Ok(value) = planner.edge_cut_between(a, b, work, &mut edges) {
             self.edges.add(value, &edges);
         }
         let mut vertices = [0; CUT_ITEMS];
@@ -114,14 +112,14 @@ impl Sums {
             nodes,
             steps,
         };
-        if let Ok(value) = vertex_cut_between(pile, a, b, work, &mut vertices) {
+        if let Ok(value) = planner.vertex_cut_between(a, b, work, &mut vertices) {
             self.vertices.add(value, &vertices);
         }
     }
 }
 
-// Adds up the pairs of the map of a planner in its pile.
-fn add_all<S: Editable>(pile: &mut Pile<S>) -> Sums {
+// Adds up the pairs of the map of a planner.
+fn add_all<S: Editable>(planner: &mut Planner<S>) -> Sums {
     let none = Step {
         node: 0,
         before: 0,
@@ -134,10 +132,10 @@ fn add_all<S: Editable>(pile: &mut Pile<S>) -> Sums {
         steps: [none; CELLS],
     };
     let mut sums = Sums::default();
-    let n = pile.map.map.order();
+    let n = planner.order();
     for a in 0..FIRSTS {
         for b in a + 1..n {
-            sums.add_pair(pile, &mut memory, a, b);
+            sums.add_pair(planner, &mut memory, a, b);
         }
     }
     sums
@@ -149,12 +147,11 @@ fn sums_of<S: Editable>(memory: S::Memory, text: &str) -> Option<Sums> {
     let Call::Make(n) = read_call(lines.next()?.as_bytes()).ok()? else {
         return None;
     };
-    let planner = Planner::<S>::open(n, memory).ok()?;
-    let mut pile = Split::over(Line::over(planner));
+    let mut planner = Planner::<S>::open(n, memory).ok()?;
     for call in lines.filter_map(|line| read_call(line.as_bytes()).ok()) {
-        let _ = perform(&mut pile.map.map, call);
+        let _ = perform(&mut planner, call);
     }
-    Some(add_all(&mut pile))
+    Some(add_all(&mut planner))
 }
 
 fn main(rt: HostRuntime) -> anyhow::Result<()> {

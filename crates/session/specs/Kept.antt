@@ -6,4 +6,4 @@ use Rattle.strike.specs.Kept.{kept}
 use Rattle.session.specs.declared.Planner.{Planner}
 
 abbrev pub model_of : {S : Type 0} → (S → Graph) → (S → ℕ) → Planner S → Model
-model_of graph most p = kept graph most p.layer
+model_of graph most p = kept graph most p.pile.map.map

@@ -12,14 +12,19 @@ ghost use Rattle.strike.specs.Kept.{noted};
 ghost use Rattle.strike.specs.Struck.{without_simple};
 ghost use Rattle.session.specs.Kept.{model_of};
 
+mod pairs;
+
 use model::{Answer, Call, Refusal, Vertex, is_bad_order};
+use plan::{Line, Split};
 use store::{Editable, Map};
 use strike::Strike;
 
-// The map of a session: a store, and over it the edges that are struck.
+// The map of a session, one pile for its whole life: a store, over it the edges that are struck,
+// over these the map as a plan of edges, and over that one as a plan of vertices. Edits go down
+// through it and both plans read it, so nothing is copied or built anew.
 #[derive(Drop)]
 pub struct Planner<S> {
-    layer: Strike<S>,
+    pile: Split<Line<Strike<S>>>,
 }
 
 // As a map, a planner is the graph in force. The questions are passed on one by one: no form of
@@ -27,22 +32,22 @@ pub struct Planner<S> {
 impl<S: Editable> Map for Planner<S> {
     ghost graph = { λ p. in_force (model_of S.Map.graph S.Editable.most p) };
 
-    ghost simple = { λ p. without_simple (S.Map.graph p.layer.store) (noted p.layer) (S.Map.simple p.layer.store) };
+    ghost simple = { λ p. without_simple (S.Map.graph p.pile.map.map.store) (noted p.pile.map.map) (S.Map.simple p.pile.map.map.store) };
 
     fn order(&mut self) -> u16 {
-        self.layer.order()
+        self.pile.map.order()
     }
 
     fn joined(&mut self, u: Vertex, v: Vertex) -> bool {
-        self.layer.joined(u, v)
+        self.pile.map.joined(u, v)
     }
 
     fn degree(&mut self, u: Vertex) -> u16 {
-        self.layer.degree(u)
+        self.pile.map.degree(u)
     }
 
     fn next(&mut self, u: Vertex, w: Vertex) -> Option<Vertex> {
-        self.layer.next(u, w)
+        self.pile.map.next(u, w)
     }
 }
 
@@ -53,7 +58,7 @@ impl<S: Editable> Planner<S> {
         ensures { model_of S.Map.graph S.Editable.most result ≡ blank n ((S.Editable.lent memory).capacity n) }
     {
         Planner {
-            layer: Strike::over(S::make(n, memory)),
+            pile: Split::over(Line::over(Strike::over(S::make(n, memory)))),
         }
     }
 
@@ -75,19 +80,19 @@ impl<S: Editable> Planner<S> {
         match call {
             Call::Make(n) => Err(later_make(n)),
             Call::Join(u, v) => {
-                self.layer.join(u, v)?;
+                self.pile.map.map.join(u, v)?;
                 Ok(Answer::Joined)
             }
             Call::Part(u, v) => {
-                self.layer.part(u, v)?;
+                self.pile.map.map.part(u, v)?;
                 Ok(Answer::Parted)
             }
             Call::Strike(u, v) => {
-                self.layer.strike(u, v)?;
+                self.pile.map.map.strike(u, v)?;
                 Ok(Answer::Struck)
             }
             Call::Lift(u, v) => {
-                self.layer.lift(u, v)?;
+                self.pile.map.map.lift(u, v)?;
                 Ok(Answer::Lifted)
             }
         }
