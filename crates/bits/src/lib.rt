@@ -74,12 +74,13 @@ pub fn next(words: &[u64], on: bool, w: u16) -> Option<u16>
     ensures { result ≡ first (λ k. (if on then has words.now 0 k else not (has words.now 0 k))) w (64 * length words.now - w) }
 {
     let start = w / WORD_BITS;
+    let mut k = w % WORD_BITS; // where to begin in a word: at w, and then at its first bit
     for i in start..words.len() as u16 {
         let word = word_for(words[i as usize], on);
-        let k = w.saturating_sub(WORD_BITS * i);
         if let Some(j) = word_next(word, k) {
             return Some(WORD_BITS * i + j);
         }
+        k = 0;
     }
     None
 }

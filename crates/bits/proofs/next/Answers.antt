@@ -8,8 +8,8 @@ use Rattle.bits.proofs.next.Goals as goal
 found : (c : goal.In-Some)
     → (c.in-Some.j < 64) × (Some (64 * c.loop-i.i + c.in-Some.j) ≡ first (looked_for c.args.on c.args.words.now) c.args.w (64 * length c.args.words.now - c.args.w))
 found c =
-    in_word c.args.words.now c.args.on c.args.w c.loop-i.i (length c.args.words.now) c.word_for-word.result c.saturating_sub-k.result
-    (omega arith) (omega arith) c.word_for-word.ensures c.saturating_sub-k.ensures c.loop-i.invariant c.in-Some.j c.in-Some.ensures
+    in_word c.args.words.now c.args.on c.args.w c.loop-i.i (length c.args.words.now) c.word_for-word.result c.loop-i.k
+    (omega arith) (omega arith) c.word_for-word.ensures c.loop-i.invariant.0 c.loop-i.invariant.1 c.in-Some.j c.in-Some.ensures
 
 pub overflow_add-result : goal.overflow_add-result
 overflow_add-result c = omega (arith, (found c).0)
@@ -18,9 +18,11 @@ pub returns-in-Some : goal.returns-in-Some
 returns-in-Some c = (found c).1
 
 pub loop-i-preserved : goal.loop-i-preserved
-loop-i-preserved c =
-    past_word c.args.words.now c.args.on c.args.w c.loop-i.i (length c.args.words.now) c.word_for-word.result c.saturating_sub-k.result
-    (omega arith) (omega arith) c.word_for-word.ensures c.saturating_sub-k.ensures c.loop-i.invariant c.in_default.ensures
+loop-i-preserved c = (
+  omega arith,
+  past_word c.args.words.now c.args.on c.args.w c.loop-i.i (length c.args.words.now) c.word_for-word.result c.loop-i.k
+      (omega arith) (omega arith) c.word_for-word.ensures c.loop-i.invariant.0 c.loop-i.invariant.1 c.in_default.ensures,
+)
 
 pub returns : goal.returns
-returns c = first_missing (looked_for c.args.on c.args.words.now) c.args.w (64 * length c.args.words.now) (λ k a b. c.loop-i.invariant k a (omega arith))
+returns c = first_missing (looked_for c.args.on c.args.words.now) c.args.w (64 * length c.args.words.now) (λ k a b. c.loop-i.invariant.1 k a (omega arith))
