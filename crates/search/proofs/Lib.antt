@@ -3,3 +3,4 @@ pub mod Notes
 pub mod States
 pub mod Turns
 pub mod Lines
+pub mod Finds

@@ -4,12 +4,15 @@
 --   first_marks                        the marks after the first node is marked
 --   found_at, none_at                  what was found below a bound that is the same as another
 --   along_found, along_none            what the next arc with room is, in such a plan
+--   value_in, found_in                 how the goal is found, in such a plan
 --   taken_first                        the first of a line is taken to be looked at
 --   arcs_done                          its arcs have been looked at
-use Rattle.std.proofs.Common.{◌≡◌, ℕ, ◌+◌, ◌-◌, ◌<◌, ◌≤◌, Bool, false, ◌||◌, eqb, List, ◌∷◌, map, length, set, Some, None, Option, sym, ap, ◌∙◌, length-set}
+use Rattle.std.proofs.Common.{◌≡◌, ℕ, ◌+◌, ◌-◌, ◌<◌, ◌≤◌, Bool, true, false, ◌||◌, eqb, List, ◌∷◌, map, length, set, Some, None, Option, sym, ap, ◌∙◌, subst, length-set, MatchOption}
 use Rattle.graph.specs.Graph.{first}
 use Rattle.graph.proofs.Firsts.{Found, first_some, first_all}
-use Rattle.flows.specs.Flow.{Digraph}
+use Rattle.flows.specs.Flow.{Digraph, residual}
+use Rattle.augment.specs.Trails.{Trail}
+use Rattle.search.specs.Goals.{goal_from, goal_noted}
 use Rattle.search.specs.Steps.{along, fresh}
 use Rattle.search.proofs.States.{State, Nobody, unmarked}
 use Rattle.augment.specs.declared.notes.Notes.{Notes}
@@ -47,6 +50,20 @@ module _ {X : Type 0} (D : X → Digraph) {a b : X} (same : a ≡ b) where
     -- There is no more.
     pub along_none : None ≡ first (fresh m (along (D a) f p)) w (n - w) → (k : ℕ) → w ≤ k → k < (D b).nodes → fresh m (along (D b) f p) k ≡ false
     along_none h = none_at (fresh m (along (D b) f p)) w nodes (h ∙ asked)
+
+  -- The goal is found with q.
+  module _ (f : ℕ → ℕ → Bool) (goal : Option ℕ) (q : ℕ) where
+    -- Whether it is, is as it was.
+    pub value_in : {found : Bool} → found ≡ goal_from goal (along (D a) f q) q → found ≡ true → goal_from goal (along (D b) f q) q ≡ true
+    value_in value yes_found = ap (λ (x : X). goal_from goal (along (D x) f q) q) (sym same) ∙ sym value ∙ yes_found
+
+    -- And so are the notes that lead to it.
+    pub found_in : (s : ℕ) (noted : List ℕ) {after : List ℕ} → after ≡ goal_noted goal (along (D a) f q) q noted
+        → MatchOption goal ⊥ (λ t. Trail (residual (D b) f) s t (goal_noted goal (along (D b) f q) q noted))
+        → MatchOption goal ⊥ (λ t. Trail (residual (D b) f) s t after)
+    found_in s noted notes =
+        subst (λ (z : List ℕ). MatchOption goal ⊥ (λ t. Trail (residual (D b) f) s t z))
+        (ap (λ (x : X). goal_noted goal (along (D x) f q) q noted) (sym same) ∙ sym notes)
 
 -- A node p is looked at, in a plan of n nodes that is as it was.
 module _ {X : Type 0} (D : X → Digraph) {f : ℕ → ℕ → Bool} {s : ℕ} {goal : Option ℕ} {n p : ℕ} {m : ℕ → Bool} {before : List ℕ} where

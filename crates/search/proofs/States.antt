@@ -1,6 +1,8 @@
 -- What stays true of a search: each marked node has a trail, and is waiting or leads to marked
 -- nodes only.
 --
+--   is_goal   whether q is what is looked for
+--   off_goal  what is looked for is not marked
 --   Seen      a marked node is reached, by a trail over marked nodes
 --   State     what holds between two nodes, and while the nodes that Cur says are looked at
 --   begun     the start is marked and waits
@@ -18,9 +20,18 @@ use Rattle.flows.specs.Flow.{Digraph, residual, residual_side}
 use Rattle.flows.proofs.Lists.{any_nil, among_one, among_push, never_true}
 use Rattle.flows.proofs.Reached.{reached_self, reached_step, reached_is}
 use Rattle.flows.proofs.Routes.{walk_push, apart_push}
-use Rattle.search.specs.Goals.{is_goal, off_goal}
 use Rattle.augment.specs.Trails.{Noted, Trail}
 use Rattle.search.proofs.Notes.{noted_still, noted_push}
+
+-- Without a goal nothing is it.
+abbrev pub is_goal : Option ℕ → ℕ → Bool
+is_goal None q = false
+is_goal (Some t) q = eqb q t
+
+-- No goal, or one that is not marked.
+abbrev pub off_goal : Option ℕ → (ℕ → Bool) → Type 0
+off_goal None m = Unit {0}
+off_goal (Some t) m = m t ≡ false
 
 -- How many numbers below n are not marked.
 unfoldable pub unmarked : (ℕ → Bool) → ℕ → ℕ

@@ -5,16 +5,17 @@
 --   taken         p is taken from the front of the queue
 --   by_along, by_back     a fresh node is found, and is marked, noted and waiting
 --   along_all, back_all   no more fresh node is there
-use Rattle.std.proofs.Common.{◌≡◌, ℕ, ◌+◌, ◌<◌, ◌≤◌, Bool, true, false, not, ◌&&◌, ◌||◌, eqb, ◌⊎◌, List, [], ◌∷◌, ◌++◌, length, set, Option, sym, refl, ap, ◌∙◌, subst, inl, inr, ⊎_elim, arith, length-append, MatchOption}
+use Rattle.std.proofs.Common.{◌≡◌, ℕ, ◌+◌, ◌<◌, ◌≤◌, Bool, true, false, not, ◌&&◌, ◌||◌, eqb, ◌⊎◌, List, [], ◌∷◌, ◌++◌, length, set, IfSome, Option, sym, refl, ap, ◌∙◌, subst, inl, inr, ⊎_elim, arith, length-append, MatchOption}
 use Rattle.std.proofs.lemmas.Bool.{cases_lt, cases_eq, or_cases, or_left, or_right}
 use Rattle.graph.proofs.Firsts.{Found}
 use Rattle.flows.specs.Flow.{Digraph, residual}
 use Rattle.flows.proofs.Lists.{among_head, among_tail, among_cases}
-use Rattle.search.specs.Goals.{is_goal}
+use Rattle.search.specs.Goals.{goal_from, goal_noted}
 use Rattle.search.specs.Steps.{along, back, fresh}
 use Rattle.augment.specs.Trails.{Trail}
 use Rattle.search.proofs.Fresh.{fresh_parts, fresh_done}
-use Rattle.search.proofs.States.{State, Done, Nobody, Entry, unmarked, grown, new_marked, entered, fewer, roomy, goal_found}
+use Rattle.search.proofs.States.{is_goal, State, Done, Nobody, Entry, unmarked, grown, new_marked, entered, fewer, roomy}
+use Rattle.search.proofs.Finds.{found_with}
 
 -- Each number below v that passes the test is marked.
 pub record Passed (m test : ℕ → Bool) (v : ℕ) : Type 0 where
@@ -131,14 +132,12 @@ module _ {d : Digraph} {f : ℕ → ℕ → Bool} {s : ℕ} {goal : Option ℕ} 
           let a = fresh_parts m test q o.here in
           record { state = t.state; from = t.here; free = a.0; node = o.below; step = step a.1; wide = wide; with_q = with_q }
 
-      -- What leads to the goal by the notes leads to it by what they are now.
-      as_noted : MatchOption goal ⊥ (λ t. Trail (residual d f) s t (set before q p)) → MatchOption goal ⊥ (λ t. Trail (residual d f) s t after)
-      as_noted = subst (λ (b : List ℕ). MatchOption goal ⊥ (λ t. Trail (residual d f) s t b)) (sym note)
-
-      -- It is the goal.
-      pub found : (test : ℕ → Bool) {u : ℕ} → Found (fresh m test) u d.nodes q → (test q ≡ true → residual d f p q ≡ true) → is_goal goal q ≡ true
-          → MatchOption goal ⊥ (λ t. Trail (residual d f) s t after)
-      found test o step g = as_noted (goal_found (found_new test {m' = λ k. m k || eqb k q} (λ k. refl) o step) g)
+      -- With it the goal is found.
+      pub found : (test : ℕ → Bool) {u : ℕ} → Found (fresh m test) u d.nodes q → (test q ≡ true → residual d f p q ≡ true)
+          → IfSome goal (λ t. t < d.nodes) → IfSome goal (λ t. t < length after) → goal_from goal (along d f q) q ≡ true
+          → MatchOption goal ⊥ (λ t. Trail (residual d f) s t (goal_noted goal (along d f q) q after))
+      found test o step node fits g =
+          found_with (along d f q) (along_step d f q) (found_new test {m' = λ k. m k || eqb k q} (λ k. refl) o step) node fits note g
 
       -- There is room for it to wait.
       pub has_room : (test : ℕ → Bool) {u : ℕ} → Found (fresh m test) u d.nodes q → (test q ≡ true → residual d f p q ≡ true) → length queue < d.nodes

@@ -1,15 +1,15 @@
--- What a search looks for: a node, or none.
+-- What a search looks for, a node or none, and how it finds it: at a node, or one step on from it.
 --
---   is_goal    whether q is what is looked for
---   off_goal   what is looked for is not marked
-use Rattle.std.specs.Prelude.{◌≡◌, ℕ, Bool, false, Some, None, Option, ◌==◌}
+--   goal_from    whether q is the goal, or a step leads from q to it
+--   goal_noted   the notes, with the step from q to the goal if it is found so
+use Rattle.std.specs.Prelude.{ℕ, Bool, false, cond, not, ◌&&◌, ◌||◌, Some, None, Option, List, ◌==◌, slice_set}
 
--- Without a goal nothing is it.
-abbrev pub is_goal : Option ℕ → ℕ → Bool
-is_goal None q = false
-is_goal (Some t) q = q == t
+-- Without a goal nothing is found.
+abbrev pub goal_from : Option ℕ → (ℕ → Bool) → ℕ → Bool
+goal_from None step q = false
+goal_from (Some t) step q = (q == t) || step t
 
--- No goal, or one that is not marked.
-abbrev pub off_goal : Option ℕ → (ℕ → Bool) → Type 0
-off_goal None m = Unit {0}
-off_goal (Some t) m = m t ≡ false
+-- Only a goal that is a step away is noted.
+abbrev pub goal_noted : Option ℕ → (ℕ → Bool) → ℕ → List ℕ → List ℕ
+goal_noted None step q before = before
+goal_noted (Some t) step q before = cond (not (q == t) && step t) (slice_set before t q) before

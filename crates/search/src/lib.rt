@@ -8,15 +8,16 @@ ghost use Rattle.std.specs.Prelude.{◌≡◌, ℕ, ◌<◌, ◌≤◌, true, fa
 ghost use Rattle.flows.specs.Flow.{residual, residual_side};
 ghost use Rattle.rows.specs.Flow.{carried};
 ghost use Rattle.rows.specs.Marks.{marked};
-ghost use Rattle.search.specs.Goals.{is_goal};
 ghost use Rattle.augment.specs.Trails.{Trail};
 
+mod goal;
 mod line;
 mod slots;
 mod steps;
 mod waiting;
 
 use augment::Notes;
+use goal::finds_goal;
 use line::enter;
 use plan::Plan;
 use ring::Ring;
@@ -25,13 +26,6 @@ use rows::marks::Marks;
 pub use slots::Slots;
 use steps::{next_along, next_back};
 pub use waiting::Waiting;
-
-// Whether q is what is looked for.
-fn is_goal(goal: Option<u16>, q: u16) -> bool
-    ensures { result ≡ is_goal goal q }
-{
-    goal.is_some_and(|t| q == t)
-}
 
 // Marks what `from` reaches by residual steps: along an arc on which the flow leaves room, or
 // back along the flow. With a goal it leaves off there, and the notes lead back.
@@ -61,27 +55,30 @@ pub fn search<P: Plan, E: Waiting>(
     marks.clear();
     let mut line = Ring::new(slots.cells);
     enter(marks, &mut line, from, from, true);
+    if finds_goal(plan, flow, notes, goal, from) {
+        return true;
+    }
     let mut found = false;
     'search: while let Some(first) = line.pop() {
         let p = first.node();
         let mut ahead = 0;
         'along: while let Some(q) = next_along(plan, flow, marks, p, ahead, n) {
             notes.note(q, p);
-            if is_goal(goal, q) {
+            enter(marks, &mut line, q, p, true);
+            if finds_goal(plan, flow, notes, goal, q) {
                 found = true;
                 break 'search;
             }
-            enter(marks, &mut line, q, p, true);
             ahead = q + 1;
         }
         let mut behind = 0;
         'back: while let Some(q) = next_back(flow, marks, p, behind, n) {
             notes.note(q, p);
-            if is_goal(goal, q) {
+            enter(marks, &mut line, q, p, false);
+            if finds_goal(plan, flow, notes, goal, q) {
                 found = true;
                 break 'search;
             }
-            enter(marks, &mut line, q, p, false);
             behind = q + 1;
         }
     }

@@ -1,16 +1,34 @@
-use Rattle.std.proofs.Common.{◌≡◌, ℕ, ◌+◌, ◌<◌, List, [], ◌∷◌, ◌++◌, map, length, sym, refl, ap, ◌∙◌, arith}
+use Rattle.std.proofs.Common.{◌≡◌, ℕ, ◌+◌, ◌<◌, IfSome, List, [], ◌∷◌, ◌++◌, map, length, refl, ap, ◌∙◌, arith}
 use Rattle.std.proofs.lemmas.List.{length-map}
 use Rattle.std.proofs.lemmas.Bool.{or_left}
 use Rattle.graph.proofs.Firsts.{Found}
 use Rattle.rows.specs.Flow.{carried}
 use Rattle.rows.specs.Marks.{marked}
 use Rattle.search.specs.Steps.{along, back, fresh}
-use Rattle.search.proofs.States.{unmarked, begun, ended, missed}
+use Rattle.search.proofs.States.{State, Nobody, unmarked, begun, ended, missed}
+use Rattle.search.proofs.Finds.{goal_node, goal_apart, goal_fits, passed_by, step_on}
 use Rattle.search.proofs.Turns.{Turn, back_all, along_step, found, has_room, by_along, by_back}
-use Rattle.search.proofs.Lines.{each, first_marks, along_found, found_at, none_at, taken_first, arcs_done, lies_on, lies_over}
+use Rattle.search.proofs.Lines.{each, first_marks, along_found, found_at, none_at, value_in, found_in, taken_first, arcs_done, lies_on, lies_over}
 use Rattle.search.proofs.search.Given as given
 use Rattle.search.proofs.search.Goals as goal
-use Rattle.search.proofs.search.Goals.{After-next_along, In-Some-next_along, After-next_back, In-Some-next_back}
+use Rattle.search.proofs.search.Goals.{After-finds_goal, After-next_along, In-Some-next_along, After-finds_goal-in-Some-next_along, After-next_back, In-Some-next_back, After-finds_goal-in-Some-next_back}
+
+-- At first the start alone is marked, and waits.
+state_first : (g : given.Over) (c : After-finds_goal g) (before : List ℕ)
+    → State (g.P.Plan.digraph c.args.plan.now) (carried c.args.flow.now) c.args.from c.args.goal Nobody
+    (map g.E.Waiting.node c.enter.new.line.items) (marked c.enter.new.marks) before
+state_first g c before =
+    let alone = ap (λ (z : List g.row.E.Denot). map g.E.Waiting.node z ++ (c.args.from ∷ [])) c.new-line.ensures.items in
+    let marks = first_marks c.args.from c.clear.ensures c.enter.ensures.marks in
+    begun c.requires.start marks c.requires.goal (c.enter.ensures.nodes ∙ alone)
+
+-- A goal is a node of the plan as it was given, and has a place among the notes.
+goal_first : (g : given.Over) (c : After-finds_goal g) → IfSome c.args.goal (λ t. t < (g.P.Plan.digraph c.args.plan.now).nodes)
+goal_first g c = goal_node c.args.goal c.args.from (g.P.Plan.digraph c.args.plan.now).nodes c.requires.goal
+
+-- The plan is as it was given, while arcs are looked at.
+kept_ahead : (g : given.Over) (c : After-next_along g) → c.search.plan ≡ c.args.plan.now
+kept_ahead g c = c.search.invariant.0 ∙ c.finds_goal.ensures.same ∙ c.node_count-n.ensures.same
 
 -- While arcs are looked at, a node is, with its arcs up to the next.
 turn_ahead : (g : given.Over) (c : After-next_along g)
@@ -31,7 +49,7 @@ next_ahead g c = along_found g.P.Plan.digraph c.along.invariant.0 _ _ _ _ c.sear
 -- There is room to note the node before it.
 wide_ahead : (g : given.Over) (c : In-Some-next_along g) → c.in-Some-next_along.q < length c.along.notes.before.now
 wide_ahead g c =
-    omega (arith, (next_ahead g c).below, g.P.Plan.small c.search.plan, c.requires.memory, c.search.invariant.5.1, c.along.invariant.5.1)
+    omega (arith, (next_ahead g c).below, g.P.Plan.small c.search.plan, c.requires.memory, c.finds_goal.ensures.size, c.search.invariant.5.1, c.along.invariant.5.1)
 
 -- The arcs of the node have been looked at, and the plan is as it was.
 nodes_behind : (g : given.Over) (c : After-next_back g) → c.node_count-n.result ≡ (g.P.Plan.digraph c.next_along.new.plan).nodes
@@ -44,7 +62,7 @@ turn_behind : (g : given.Over) (c : After-next_back g)
     (map g.E.Waiting.node c.back.line.items) (marked c.back.marks) c.back.notes.before.now
     (length (map g.E.Waiting.node c.along.line.items) + unmarked (marked c.along.marks) c.node_count-n.result)
 turn_behind g c =
-    c.back.invariant.2
+    c.back.invariant.3
     (arcs_done g.P.Plan.digraph c.along.invariant.0 c.in_default-next_along.ensures.same c.search.invariant.2 c.in_default-next_along.ensures.value
     (turn_ahead g (goal.at.After-next_back g c).After-next_along))
 
@@ -58,18 +76,17 @@ next_behind g c = found_at _ _ (nodes_behind g (goal.at.In-Some-next_back g c).A
 wide_behind : (g : given.Over) (c : In-Some-next_back g) → c.in-Some-next_back.q < length c.back.notes.before.now
 wide_behind g c =
     let small = g.P.Plan.small c.next_along.new.plan in
-    omega (arith, (next_behind g c).below, small, c.requires.memory, c.search.invariant.5.1, c.along.invariant.5.1, c.back.invariant.3.1)
+    omega (arith, (next_behind g c).below, small, c.requires.memory, c.finds_goal.ensures.size, c.search.invariant.5.1, c.along.invariant.5.1, c.back.invariant.4.1)
 
 pub search-init : goal.search-init
 search-init g c =
-    let same = c.node_count-n.ensures.same in
-    let alone = ap (λ (z : List g.row.E.Denot). map g.E.Waiting.node z ++ (c.args.from ∷ [])) c.new-line.ensures.items in
-    let marks = first_marks c.args.from c.clear.ensures c.enter.ensures.marks in (
+    let at = goal.at.search-init g c in
+    let same = c.finds_goal.ensures.same ∙ c.node_count-n.ensures.same in (
       refl,
       refl,
       rw same c.node_count-n.ensures.value,
       omega (arith, c.enter.ensures.room, c.new-line.ensures.room, c.args.slots.now.fits),
-      rw same (begun c.requires.start marks c.requires.goal (c.enter.ensures.nodes ∙ alone)),
+      rw same (state_first g at.After-finds_goal c.finds_goal.new.notes.before.now),
       (refl, refl),
     )
 
@@ -97,14 +114,18 @@ along-smaller g c =
 pub along-preserved : goal.along-preserved
 along-preserved g c =
     let at = goal.at.along-preserved g c in
-    let same = c.in-Some-next_along.ensures.same ∙ c.along.invariant.0 in (
+    let same = c.finds_goal-in-Some-next_along.ensures.same ∙ c.in-Some-next_along.ensures.same ∙ c.along.invariant.0 in
+    let after = passed_by c.args.goal _ c.in-Some-next_along.q c.along.notes.before.now c.node-p.result c.finds_goal-in-Some-next_along.ensures.value
+    c.if-finds_goal-2.false c.finds_goal-in-Some-next_along.ensures.notes c.note.ensures.notes in (
       same,
       c.along.invariant.1,
       rw same c.search.invariant.2,
       omega (arith, c.enter-in-Some-next_along.ensures.room, c.along.invariant.3),
-      λ _. by_along (turn_ahead g at.After-next_along) (wide_ahead g at.In-Some-next_along) c.note.ensures.notes (each c.enter-in-Some-next_along.ensures.marks)
-          c.enter-in-Some-next_along.ensures.nodes (sym c.is_goal.ensures ∙ c.if-is_goal.false) (next_ahead g at.In-Some-next_along),
-      lies_on c.along.notes c.note.new.self c.search.notes c.in-Some-next_along.q c.node-p.result c.note.ensures.notes c.note.ensures.same_reference c.along.invariant.5,
+      λ _. by_along (turn_ahead g at.After-next_along) (wide_ahead g at.In-Some-next_along) after.1 (each c.enter-in-Some-next_along.ensures.marks)
+          c.enter-in-Some-next_along.ensures.nodes after.0 (next_ahead g at.In-Some-next_along),
+      lies_over c.finds_goal-in-Some-next_along.new.notes c.note.new.self c.search.notes
+          (c.finds_goal-in-Some-next_along.ensures.same_reference, c.finds_goal-in-Some-next_along.ensures.size)
+          (lies_on c.along.notes c.note.new.self c.search.notes c.in-Some-next_along.q c.node-p.result c.note.ensures.notes c.note.ensures.same_reference c.along.invariant.5),
     )
 
 pub note-requires-in-Some-next_back : goal.note-requires-in-Some-next_back
@@ -117,7 +138,7 @@ enter-requires-in-Some-next_back g c =
     let small = g.P.Plan.small c.next_along.new.plan in
     let roomy = has_room (turn_behind g at.After-next_back) (wide_behind g at.In-Some-next_back) refl _ o (or_left _ _) in (
       omega (arith, o.below, small),
-      omega (arith, roomy, small, c.back.invariant.1, length-map c.back.line.items g.E.Waiting.node),
+      omega (arith, roomy, small, c.back.invariant.2, length-map c.back.line.items g.E.Waiting.node),
     )
 
 pub overflow_add-behind : goal.overflow_add-behind
@@ -131,14 +152,18 @@ back-smaller g c =
 
 pub back-preserved : goal.back-preserved
 back-preserved g c =
-    let at = goal.at.back-preserved g c in (
-      c.back.invariant.0,
-      omega (arith, c.enter-in-Some-next_back.ensures.room, c.back.invariant.1),
-      λ _. by_back (turn_behind g at.After-next_back) (wide_behind g at.In-Some-next_back) c.note-in-Some-next_back.ensures.notes (each c.enter-in-Some-next_back.ensures.marks)
-          c.enter-in-Some-next_back.ensures.nodes (sym c.is_goal-in-Some-next_back.ensures ∙ c.if-is_goal-2.false)
-          (next_behind g at.In-Some-next_back),
-      lies_on c.back.notes c.note-in-Some-next_back.new.self c.along.notes c.in-Some-next_back.q c.node-p.result c.note-in-Some-next_back.ensures.notes c.note-in-Some-next_back.ensures.same_reference
-          c.back.invariant.3,
+    let at = goal.at.back-preserved g c in
+    let after = passed_by c.args.goal _ c.in-Some-next_back.q c.back.notes.before.now c.node-p.result c.finds_goal-in-Some-next_back.ensures.value
+    c.if-finds_goal-3.false c.finds_goal-in-Some-next_back.ensures.notes c.note-in-Some-next_back.ensures.notes in (
+      c.finds_goal-in-Some-next_back.ensures.same ∙ c.back.invariant.0,
+      c.back.invariant.1,
+      omega (arith, c.enter-in-Some-next_back.ensures.room, c.back.invariant.2),
+      λ _. by_back (turn_behind g at.After-next_back) (wide_behind g at.In-Some-next_back) after.1 (each c.enter-in-Some-next_back.ensures.marks)
+          c.enter-in-Some-next_back.ensures.nodes after.0 (next_behind g at.In-Some-next_back),
+      lies_over c.finds_goal-in-Some-next_back.new.notes c.note-in-Some-next_back.new.self c.along.notes
+          (c.finds_goal-in-Some-next_back.ensures.same_reference, c.finds_goal-in-Some-next_back.ensures.size)
+          (lies_on c.back.notes c.note-in-Some-next_back.new.self c.along.notes c.in-Some-next_back.q c.node-p.result c.note-in-Some-next_back.ensures.notes
+          c.note-in-Some-next_back.ensures.same_reference c.back.invariant.4),
     )
 
 pub search-smaller : goal.search-smaller
@@ -152,38 +177,68 @@ search-smaller g c =
 pub search-preserved : goal.search-preserved
 search-preserved g c =
     let at = goal.at.search-preserved g c in
-    let same = c.in_default-next_along.ensures.same ∙ c.along.invariant.0 ∙ c.search.invariant.0 in
+    let behind = c.in_default-next_along.ensures.same ∙ c.along.invariant.0 ∙ c.search.invariant.0 in
+    let same = c.back.invariant.0 ∙ behind in
     let nodes = nodes_behind g at.After-next_back in (
       same,
-      c.back.invariant.0,
-      nodes,
       c.back.invariant.1,
-      rw (← same) (back_all (turn_behind g at.After-next_back) nodes (none_at _ _ nodes c.in_default-next_back.ensures)),
-      lies_over c.back.notes c.along.notes c.args.notes.now c.back.invariant.3
-          (lies_over c.along.notes c.search.notes c.args.notes.now c.along.invariant.5 c.search.invariant.5),
+      rw c.back.invariant.0 nodes,
+      c.back.invariant.2,
+      rw (← behind) (back_all (turn_behind g at.After-next_back) nodes (none_at _ _ nodes c.in_default-next_back.ensures)),
+      lies_over c.back.notes c.along.notes c.finds_goal.new.notes c.back.invariant.4
+          (lies_over c.along.notes c.search.notes c.finds_goal.new.notes c.along.invariant.5 c.search.invariant.5),
     )
 
-pub returns-then-is_goal-clause-found : goal.returns-then-is_goal-clause-found
-returns-then-is_goal-clause-found g c _ =
-    let at = goal.at.returns-then-is_goal-clause-found g c in
-    let same = c.search.invariant.0 ∙ c.node_count-n.ensures.same in
-    rw (← same)
-    (found (turn_ahead g at.After-next_along) (wide_ahead g at.In-Some-next_along) c.note.ensures.notes _ (next_ahead g at.In-Some-next_along)
-    (along_step _ _ _ _) (sym c.is_goal.ensures ∙ c.if-is_goal.true))
+pub returns-then-finds_goal-clause-found : goal.returns-then-finds_goal-clause-found
+returns-then-finds_goal-clause-found g c _ =
+    let at = goal.at.returns-then-finds_goal-clause-found g c in
+    let f = carried c.args.flow.now in
+    let node = goal_first g at.After-finds_goal in
+    let fits = goal_fits c.args.goal node (omega (arith, g.P.Plan.small c.args.plan.now, c.requires.memory)) in
+    let start = state_first g at.After-finds_goal c.args.notes.now.before.now in
+    found_in g.P.Plan.digraph c.node_count-n.ensures.same f c.args.goal c.args.from c.args.from c.args.notes.now.before.now c.finds_goal.ensures.notes
+    (step_on (along (g.P.Plan.digraph c.args.plan.now) f c.args.from) (along_step (g.P.Plan.digraph c.args.plan.now) f c.args.from) c.args.goal start start.start
+    (goal_apart c.args.goal c.args.from (g.P.Plan.digraph c.args.plan.now).nodes c.requires.goal) node fits
+    (value_in g.P.Plan.digraph c.node_count-n.ensures.same f c.args.goal c.args.from c.finds_goal.ensures.value c.if-finds_goal.true))
 
-pub returns-then-is_goal-2-clause-found : goal.returns-then-is_goal-2-clause-found
-returns-then-is_goal-2-clause-found g c _ =
-    let at = goal.at.returns-then-is_goal-2-clause-found g c in
-    let same = c.in_default-next_along.ensures.same ∙ c.along.invariant.0 ∙ c.search.invariant.0 ∙ c.node_count-n.ensures.same in
-    rw (← same)
+pub returns-then-finds_goal-2-clause-found : goal.returns-then-finds_goal-2-clause-found
+returns-then-finds_goal-2-clause-found g c _ =
+    let at = goal.at.returns-then-finds_goal-2-clause-found g c in
+    let f = carried c.args.flow.now in
+    let kept = kept_ahead g at.After-next_along in
+    let here = c.in-Some-next_along.ensures.same ∙ c.along.invariant.0 in
+    let node : IfSome c.args.goal (λ t. t < (g.P.Plan.digraph c.search.plan).nodes) = rw kept (goal_first g at.After-finds_goal) in
+    let lies = lies_on c.along.notes c.note.new.self c.search.notes c.in-Some-next_along.q c.node-p.result c.note.ensures.notes c.note.ensures.same_reference
+    c.along.invariant.5 in
+    let fits = goal_fits c.args.goal node
+    (omega (arith, g.P.Plan.small c.search.plan, c.requires.memory, c.finds_goal.ensures.size, c.search.invariant.5.1, lies.1)) in
+    rw (← kept)
+    (found_in g.P.Plan.digraph here f c.args.goal c.in-Some-next_along.q c.args.from c.note.new.self.before.now c.finds_goal-in-Some-next_along.ensures.notes
+    (found (turn_ahead g at.After-next_along) (wide_ahead g at.In-Some-next_along) c.note.ensures.notes _ (next_ahead g at.In-Some-next_along)
+    (along_step _ _ _ _) node fits
+    (value_in g.P.Plan.digraph here f c.args.goal c.in-Some-next_along.q c.finds_goal-in-Some-next_along.ensures.value c.if-finds_goal-2.true)))
+
+pub returns-then-finds_goal-3-clause-found : goal.returns-then-finds_goal-3-clause-found
+returns-then-finds_goal-3-clause-found g c _ =
+    let at = goal.at.returns-then-finds_goal-3-clause-found g c in
+    let f = carried c.args.flow.now in
+    let kept = c.in_default-next_along.ensures.same ∙ c.along.invariant.0 ∙ kept_ahead g at.After-next_along in
+    let node : IfSome c.args.goal (λ t. t < (g.P.Plan.digraph c.next_along.new.plan).nodes) = rw kept (goal_first g at.After-finds_goal) in
+    let lies = lies_on c.back.notes c.note-in-Some-next_back.new.self c.along.notes c.in-Some-next_back.q c.node-p.result c.note-in-Some-next_back.ensures.notes
+    c.note-in-Some-next_back.ensures.same_reference c.back.invariant.4 in
+    let fits = goal_fits c.args.goal node
+    (omega (arith, g.P.Plan.small c.next_along.new.plan, c.requires.memory, c.finds_goal.ensures.size, c.search.invariant.5.1, c.along.invariant.5.1, lies.1)) in
+    rw (← kept)
+    (found_in g.P.Plan.digraph c.back.invariant.0 f c.args.goal c.in-Some-next_back.q c.args.from c.note-in-Some-next_back.new.self.before.now c.finds_goal-in-Some-next_back.ensures.notes
     (found (turn_behind g at.After-next_back) (wide_behind g at.In-Some-next_back) c.note-in-Some-next_back.ensures.notes _ (next_behind g at.In-Some-next_back)
-    (or_left _ _) (sym c.is_goal-in-Some-next_back.ensures ∙ c.if-is_goal-2.true))
+    (or_left _ _) node fits
+    (value_in g.P.Plan.digraph c.back.invariant.0 f c.args.goal c.in-Some-next_back.q c.finds_goal-in-Some-next_back.ensures.value c.if-finds_goal-3.true)))
 
 -- Nothing waits any more.
 pub returns-in_default-clause-swept : goal.returns-in_default-clause-swept
 returns-in_default-clause-swept g c _ =
-    rw (← c.node_count-n.ensures.same) (ended (ap (map g.E.Waiting.node) c.in_default.ensures.items) c.search.invariant.4)
+    rw (← (c.finds_goal.ensures.same ∙ c.node_count-n.ensures.same)) (ended (ap (map g.E.Waiting.node) c.in_default.ensures.items) c.search.invariant.4)
 
 pub returns-in_default-clause-missed : goal.returns-in_default-clause-missed
 returns-in_default-clause-missed g c _ =
-    rw (← c.node_count-n.ensures.same) (missed (ap (map g.E.Waiting.node) c.in_default.ensures.items) c.search.invariant.4)
+    rw (← (c.finds_goal.ensures.same ∙ c.node_count-n.ensures.same)) (missed (ap (map g.E.Waiting.node) c.in_default.ensures.items) c.search.invariant.4)

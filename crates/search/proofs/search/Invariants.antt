@@ -43,11 +43,12 @@ abbrev pub invariant-back : goal.invariant-back
 invariant-back g l =
     let first = map g.E.Waiting.node l.initial.line.items in
     let e = length first + unmarked (marked l.initial.marks) l.n in
-    (l.found ≡ false)
+    (l.plan ≡ l.initial.plan)
+    × (l.found ≡ false)
     × (402 ≤ l.line.room)
-    × (Turn (g.P.Plan.digraph l.plan) (carried l.flow) l.from l.goal l.p l.n 0
+    × (Turn (g.P.Plan.digraph l.initial.plan) (carried l.flow) l.from l.goal l.p l.n 0
     first (marked l.initial.marks) l.initial.notes.before.now e
-    → Turn (g.P.Plan.digraph l.plan) (carried l.flow) l.from l.goal l.p l.n l.behind
+    → Turn (g.P.Plan.digraph l.initial.plan) (carried l.flow) l.from l.goal l.p l.n l.behind
     (map g.E.Waiting.node l.line.items) (marked l.marks) l.notes.before.now e)
     × Lies l.notes l.initial.notes
 
