@@ -2,22 +2,22 @@
 --
 --   vertices_at, vertices_gathered   the vertices at which arcs leave a set
 --   row_at, row_gathered             the edges from a vertex up that cross a set
---   other_found                      the lowest vertex on the other side of the set
---   row_room, row_more, row_all      such a row written from one vertex on the other side to the next
+--   Past                             no neighbour is across the set, from one number up to another
+--   row_room, row_more, row_all      such a row written from one neighbour across to the next
 --   edges_gathered                   all the edges that cross it
-use Rattle.std.proofs.Common.{◌≡◌, ℕ, zero, suc, ◌+◌, ◌-◌, ◌<◌, ◌≤◌, Bool, true, false, cond, not, ◌&&◌, ◌||◌, eqb, ltb, List, [], ◌∷◌, ◌++◌, map, length, Some, None, filter, Option, sym, refl, ap, ◌∙◌, arith}
+use Rattle.std.proofs.Common.{◌≡◌, ℕ, zero, suc, ◌+◌, ◌<◌, ◌≤◌, Bool, true, false, cond, not, ◌&&◌, ◌||◌, eqb, ltb, List, [], ◌∷◌, ◌++◌, map, length, Some, None, filter, Option, sym, refl, ap, ◌∙◌, arith}
 use Rattle.std.proofs.lemmas.List.{append-nil, append_assoc, map-append}
 use Rattle.std.proofs.lemmas.List.Elements.{filter-append}
 use Rattle.std.proofs.lemmas.Bool.{cond-true, cond-false, lt-ltb, le-ltb, and_from, and_left, and_right}
-use Rattle.graph.specs.Graph.{Graph, first}
-use Rattle.graph.proofs.Firsts.{Found, first_ext, first_some, first_all}
+use Rattle.graph.specs.Graph.{Graph}
+use Rattle.graph.proofs.Firsts.{Found, first_some, first_all}
 use Rattle.flows.specs.Lists.{upto}
 use Rattle.cuts.specs.declared.edge.Edge.{Edge}
 use Rattle.cuts.specs.Edges.{edge, edges_up, edges_of}
 use Rattle.cuts.specs.Pairs.{crossing_edges, crossing_vertices}
 use Rattle.std.specs.Bool.{then_some}
 use Rattle.std.specs.Option.{option_to_list}
-use Rattle.plan.specs.Writing.{placed, vertex_at, edge_at, next_other, crossing_row}
+use Rattle.plan.specs.Writing.{placed, vertex_at, apart, next_across, crossing_row}
 use Rattle.plan.proofs.Placing.{gathered, gathered_same, gathered_none, gathered_leap, Written, written_as, written_room, written_more}
 
 -- A list made from the numbers below n, part by part.
@@ -59,57 +59,36 @@ vertices_all g h a u n same e =
     ∙ sym (vertices_gathered g a u)
     ∙ ap (λ (k : Graph). crossing_vertices k a u) same
 
--- Whether a set has exactly one of p and q.
-abbrev pub apart : (ℕ → Bool) → ℕ → ℕ → Bool
-apart u p q = (u p && not (u q)) || (u q && not (u p))
+-- Whether an edge leads from p to q, on the other side of a set.
+abbrev pub across : Graph → (ℕ → Bool) → ℕ → ℕ → Bool
+across g u p q = g.joined p q && apart u p q
 
 -- What is written for q in the row of p.
 abbrev pub row_at : Graph → (ℕ → Bool) → ℕ → ℕ → List Edge
-row_at g u p q = cond (ltb p q && apart u p q) (option_to_list (edge_at g p q)) []
+row_at g u p q = cond (ltb p q && across g u p q) (edge p q ∷ []) []
 
--- Where p is in the set, exactly one of the two is in it if q is not; else if q is.
+-- A set has exactly one of p and q where it has p and not q, or q and not p.
 by_side : (a b : Bool) → cond a (not b) b ≡ ((a && not b) || (b && not a))
 by_side true true = refl
 by_side true false = refl
 by_side false true = refl
 by_side false false = refl
 
--- The lowest number on the other side of p is the lowest that is apart from p.
-next_apart : (u : ℕ → Bool) (p w n : ℕ) → next_other u p w n ≡ first (apart u p) w (n - w)
-next_apart u p w n =
-    elim (u p) as (λ a. cond a (first (λ q. not (u q)) w (n - w)) (first (λ q. u q) w (n - w)) ≡ first (λ q. (a && not (u q)) || (u q && not a)) w (n - w))
-    [ true ↦ first_ext _ _ w (n - w) (λ q _ _. by_side true (u q)) | false ↦ first_ext _ _ w (n - w) (λ q _ _. by_side false (u q)) ]
-
--- What it says that v is the lowest on the other side.
-pub other_found : (u : ℕ → Bool) (p w n v : ℕ) → Some v ≡ next_other u p w n → Found (apart u p) w n v
-other_found u p w n v e = first_some (apart u p) w n v (sym (e ∙ next_apart u p w n))
-
--- What it says that there is none.
-other_none : (u : ℕ → Bool) (p w n : ℕ) → None ≡ next_other u p w n → (q : ℕ) → w ≤ q → q < n → apart u p q ≡ false
-other_none u p w n e = first_all (apart u p) w n (sym (e ∙ next_apart u p w n))
-
 -- In the row of p there is no pair up to p itself.
 pub row_start : (g : Graph) (u : ℕ → Bool) (p : ℕ) → gathered (row_at g u p) (p + 1) ≡ []
-row_start g u p = gathered_none (row_at g u p) (p + 1) (λ q l. cond-false _ _ _ (and_left (ltb p q) (apart u p q) (le-ltb p q (omega arith))))
+row_start g u p = gathered_none (row_at g u p) (p + 1) (λ q l. cond-false _ _ _ (and_left (ltb p q) (across g u p q) (le-ltb p q (omega arith))))
 
--- Where the set has both p and each number from w to v, or neither, nothing is written for these numbers.
-row_leap : (g : Graph) (u : ℕ → Bool) (p w v : ℕ) → w ≤ v → ((q : ℕ) → w ≤ q → q < v → apart u p q ≡ false)
+-- Where no number from w to v is a neighbour across, nothing is written for these numbers.
+row_leap : (g : Graph) (u : ℕ → Bool) (p w v : ℕ) → w ≤ v → ((q : ℕ) → w ≤ q → q < v → across g u p q ≡ false)
     → gathered (row_at g u p) w ≡ gathered (row_at g u p) v
-row_leap g u p w v l e = gathered_leap (row_at g u p) w v l (λ q a b. cond-false _ _ _ (and_right (ltb p q) (apart u p q) (e q a b)))
-
--- An edge up from p, told by the map as it is now, which is as it was at first.
-edge_listed : (g h : Graph) (u : ℕ → Bool) (p q : ℕ) (o : Option Edge) → p < q → apart u p q ≡ true → h ≡ g → o ≡ edge_at h p q
-    → option_to_list o ≡ row_at g u p q
-edge_listed g h u p q o l differ same e =
-    ap (λ (x : Option Edge). option_to_list x) (e ∙ ap (λ (k : Graph). edge_at k p q) same)
-    ∙ sym (cond-true (ltb p q && apart u p q) _ _ (and_from (ltb p q) (apart u p q) (lt-ltb p q l) differ))
+row_leap g u p w v l e = gathered_leap (row_at g u p) w v l (λ q a b. cond-false _ _ _ (and_right (ltb p q) (across g u p q) (e q a b)))
 
 -- One pair of a row.
 one_of_row : (t : Edge → Bool) (f : ℕ → Edge) (q : ℕ) (low join : Bool)
-    → filter t (map f (cond (low && join) (q ∷ []) [])) ≡ cond (low && t (f q)) (option_to_list (then_some join (f q))) []
+    → filter t (map f (cond (low && join) (q ∷ []) [])) ≡ cond (low && (join && t (f q))) (f q ∷ []) []
 one_of_row t f q false join = refl
 one_of_row t f q true true = refl
-one_of_row t f q true false = elim (t (f q)) as (λ b. ◌≡◌ {A = List Edge} [] (cond b [] [])) [ true ↦ refl | false ↦ refl ]
+one_of_row t f q true false = refl
 
 -- The row of p, pair by pair.
 pub row_gathered : (g : Graph) (u : ℕ → Bool) (p : ℕ) → crossing_row g u p ≡ gathered (row_at g u p) g.order
@@ -122,41 +101,52 @@ row_gathered g u p =
     ∙ ap (filter t) (map-append (edge p) (filter s xs) (filter s ys))
     ∙ filter-append t (map (edge p) (filter s xs)) (map (edge p) (filter s ys)))
     g.order
-    ∙ gathered_same _ _ g.order (λ q _. one_of_row t (edge p) q (ltb p q) (g.joined p q))
+    ∙ gathered_same _ _ g.order (λ q _. one_of_row t (edge p) q (ltb p q) (g.joined p q)
+    ∙ ap (λ (b : Bool). cond (ltb p q && (g.joined p q && b)) (edge p q ∷ []) []) (sym (by_side (u p) (u q))))
 
--- The row of p is written up to w, and q is the lowest from w up that is on the other side of p.
-module _ (g h : Graph) (u : ℕ → Bool) (p w n q : ℕ) (start buffer : List Edge) (k j : ℕ) (o : Option Edge) (order : n ≡ g.order) (up : p < w) (same : h ≡ g)
+-- What the lowest neighbour across is, by the map as it is now, which is as it was at first.
+across_found : (g h : Graph) (u : ℕ → Bool) (p w : ℕ) {q : ℕ} → h ≡ g → Some q ≡ next_across h u p w → Found (across g u p) w g.order q
+across_found g h u p w {q} same e = first_some (across g u p) w g.order q (sym (e ∙ ap (λ (k : Graph). next_across k u p w) same))
+
+-- The row of p is written up to w, and q is the lowest neighbour from w up that is across.
+module _ (g h : Graph) (u : ℕ → Bool) (p w q : ℕ) (start buffer : List Edge) (k j : ℕ) (up : p < w) (same : h ≡ g)
     (room : k + length (crossing_row g u p) ≤ length start) (so_far : Written start buffer k j (gathered (row_at g u p) w))
-    (found : Some q ≡ next_other u p w n) (told : o ≡ edge_at h p q) where
+    (found : Some q ≡ next_across h u p w) where
+  -- It is a vertex above p.
+  pub above : (w ≤ q) × (q < g.order)
+  above = let f = across_found g h u p w same found in (f.from, f.below)
+
   -- What is written up to w is all up to q.
   up_to : Written start buffer k j (gathered (row_at g u p) q)
-  up_to = let f = other_found u p w n q found in written_as (row_leap g u p w q f.from f.none) so_far
+  up_to = let f = across_found g h u p w same found in written_as (row_leap g u p w q f.from f.none) so_far
 
-  -- What the map tells of p and q is what is written for q.
-  for_q : option_to_list o ≡ row_at g u p q
-  for_q = let f = other_found u p w n q found in edge_listed g h u p q o (omega (arith, f.from)) f.here same told
+  -- The edge to q is written for q.
+  for_q : edge p q ∷ [] ≡ row_at g u p q
+  for_q =
+      let f = across_found g h u p w same found in
+      sym (cond-true (ltb p q && across g u p q) _ _ (and_from (ltb p q) (across g u p q) (lt-ltb p q (omega (arith, f.from))) f.here))
 
   -- The row fits.
   fits : k + length (gathered (row_at g u p) g.order) ≤ length start
   fits = omega (arith, ap length (row_gathered g u p))
 
   -- Room for the row is room for the edge to q.
-  pub row_room : j + length (option_to_list o) ≤ length buffer
+  pub row_room : j < length buffer
   row_room =
-      let f = other_found u p w n q found in
-      written_room start buffer k j (row_at g u p) g.order q (omega (arith, f.below)) fits up_to (option_to_list o) for_q
+      let r = written_room start buffer k j (row_at g u p) g.order q above.1 fits up_to (edge p q ∷ []) for_q in
+      omega (arith, r)
 
   -- With that edge, the row is written up to q and q itself.
-  pub row_more : (after : List Edge) (m : ℕ) → m ≡ j + length (option_to_list o) → after ≡ placed j (option_to_list o) buffer
+  pub row_more : (after : List Edge) (m : ℕ) → m ≡ j + 1 → after ≡ placed j (edge p q ∷ []) buffer
       → Written start after k m (gathered (row_at g u p) (q + 1))
-  row_more =
-      let f = other_found u p w n q found in
-      written_more start buffer k j (row_at g u p) g.order q (omega (arith, f.below)) fits up_to (option_to_list o) for_q
+  row_more after m next items =
+      written_more start buffer k j (row_at g u p) g.order q above.1 fits up_to (edge p q ∷ []) for_q after m (omega (arith, next)) items
 
--- Where none is left on the other side of p, the row is written.
-pub row_all : (g : Graph) (u : ℕ → Bool) (p w n : ℕ) → n ≡ g.order → w ≤ n → None ≡ next_other u p w n → gathered (row_at g u p) w ≡ crossing_row g u p
-row_all g u p w n order l none =
-    row_leap g u p w n l (other_none u p w n none) ∙ ap (gathered (row_at g u p)) order ∙ sym (row_gathered g u p)
+-- Where no neighbour is left across, the row is written.
+pub row_all : (g h : Graph) (u : ℕ → Bool) (p w : ℕ) → h ≡ g → w ≤ g.order → None ≡ next_across h u p w → gathered (row_at g u p) w ≡ crossing_row g u p
+row_all g h u p w same l none =
+    row_leap g u p w g.order l (first_all (across g u p) w g.order (sym (none ∙ ap (λ (k : Graph). next_across k u p w) same)))
+    ∙ sym (row_gathered g u p)
 
 -- The edges of some vertices and of others.
 of_append : (g : Graph) (us vs : List ℕ) → edges_of g (us ++ vs) ≡ edges_of g us ++ edges_of g vs

@@ -1,3 +1,4 @@
 pub mod Arcs
 pub mod Placing
 pub mod Cuts
+pub mod Across

@@ -1,5 +1,5 @@
 // Items written into a lent buffer, one after another.
-ghost use Rattle.std.specs.Prelude.{◌≡◌, ◌+◌, ◌≤◌, length};
+ghost use Rattle.std.specs.Prelude.{◌≡◌, ◌+◌, ◌<◌, ◌≤◌, [], ◌∷◌, length};
 ghost use Rattle.std.specs.Option.{option_to_list};
 ghost use Rattle.plan.specs.Writing.{placed};
 
@@ -29,8 +29,20 @@ impl<'a, T: Copy> Filling<'a, T> {
         self.len
     }
 
+    // Writes an item behind the others.
+    #[tactic(auto, using(crate::proofs::Placing::placed_one))]
+    pub(crate) fn push(&mut self, x: T)
+        requires { self.old.len < length self.old.slots.now }
+        ensures next { self.new.len ≡ self.old.len + 1 }
+        ensures same_reference { self.new.slots.ghost_name ≡ self.old.slots.ghost_name }
+        ensures items { self.new.slots.now ≡ placed self.old.len (x ∷ []) self.old.slots.now }
+    {
+        self.slots[self.len] = x;
+        self.len += 1;
+    }
+
     // Writes an item behind the others, if there is one.
-    #[tactic(auto, using(crate::proofs::Placing::placed_none, crate::proofs::Placing::placed_one))]
+    #[tactic(auto, using(crate::proofs::Placing::placed_none))]
     pub(crate) fn extend(&mut self, item: Option<T>)
         requires { self.old.len + length (option_to_list item) ≤ length self.old.slots.now }
         ensures next { self.new.len ≡ self.old.len + length (option_to_list item) }
@@ -38,8 +50,7 @@ impl<'a, T: Copy> Filling<'a, T> {
         ensures items { self.new.slots.now ≡ placed self.old.len (option_to_list item) self.old.slots.now }
     {
         if let Some(x) = item {
-            self.slots[self.len] = x;
-            self.len += 1;
+            self.push(x);
         }
     }
 }

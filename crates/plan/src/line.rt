@@ -1,11 +1,12 @@
 // A map as a plan of edges: each edge is two arcs, one each way.
 ghost use Rattle.std.specs.Prelude.{◌≡◌, ◌+◌, ◌<◌, ◌≤◌, length};
 ghost use Rattle.cuts.specs.Cuts.{edge_value, nearest_edge_cut};
+ghost use Rattle.cuts.specs.Edges.{edge};
 ghost use Rattle.cuts.specs.Pairs.{both_ways, crossing_edges};
 ghost use Rattle.plan.specs.Pairs.{Two};
 ghost use Rattle.plan.specs.Plans.{both_ways_sound, both_ways_small};
 ghost use Rattle.plan.specs.Tells.{edge_two, edge_counted, edge_told};
-ghost use Rattle.plan.specs.Writing.{placed, edge_at, next_other, crossing_row};
+ghost use Rattle.plan.specs.Writing.{placed, apart, next_other, next_across, crossing_row};
 ghost use Rattle.rows.specs.Marks.{marked};
 
 use crate::buffer::Filling;
@@ -42,18 +43,41 @@ fn next_other(marks: &Marks, u: Vertex, w: Vertex, n: u16) -> Option<Vertex>
     }
 }
 
+// The edge from u up to v.
+fn edge_up(u: Vertex, v: Vertex) -> Edge
+    ensures { result ≡ edge u v }
+{
+    Edge { low: u, high: v }
+}
+
+// Whether one of u and v is marked, and the other is not.
+fn are_apart(marks: &Marks, u: Vertex, v: Vertex) -> bool
+    ensures { result ≡ apart (marked marks.now) u v }
+{
+    marks.has(u) != marks.has(v)
+}
+
 impl<M: Map> Line<M> {
-    // The edge between u and v, if there is one.
-    fn edge_at(&mut self, u: Vertex, v: Vertex) -> Option<Edge>
-        ensures value { result ≡ edge_at (M.Map.graph self.old.map) u v }
+    // The lowest neighbour of u from w up whose mark differs from that of u. Where a neighbour's does
+    // not, all up to the next mark that differs are leapt over. The order n is passed here and below,
+    // so that it is asked for once a cut.
+    fn next_across(&mut self, n: u16, marks: &Marks, u: Vertex, w: Vertex) -> Option<Vertex>
+        requires { n ≡ (M.Map.graph self.old.map).order }
+        ensures value { result ≡ next_across (M.Map.graph self.old.map) (marked marks.now) u w }
         ensures same { self.new ≡ self.old }
     {
-        self.map.joined(u, v).then_some(Edge { low: u, high: v })
+        let mut from = w;
+        while let Some(v) = self.map.next(u, from) {
+            if are_apart(marks, u, v) {
+                return Some(v);
+            }
+            from = next_other(marks, u, v + 1, n)?;
+        }
+        None
     }
 
     // Writes the edges from u up that have one end marked, behind those that are written. The loop
-    // leaps from one mark that differs to the next, where a `for` would ask for every vertex. The
-    // order n is passed, so that it is asked for once a cut and not once a row.
+    // leaps from one such edge to the next, where a `for` would ask for every vertex.
     fn write_row(&mut self, n: u16, marks: &Marks, u: Vertex, cut: &mut Filling<'_, Edge>)
         requires order { n ≡ (M.Map.graph self.old.map).order }
         requires within { u < n }
@@ -64,8 +88,8 @@ impl<M: Map> Line<M> {
         ensures same { self.new ≡ self.old }
     {
         let mut w = u + 1;
-        while let Some(v) = next_other(marks, u, w, n) {
-            cut.extend(self.edge_at(u, v));
+        while let Some(v) = self.next_across(n, marks, u, w) {
+            cut.push(edge_up(u, v));
             w = v + 1;
         }
     }
