@@ -8,15 +8,18 @@ use arrayvec::ArrayVec;
 // A route has no node twice, and a search has at most so many nodes.
 const MOST_NODES: usize = 402;
 
-// The notes, in lent numbers: number q is the node from which q was reached.
+// The notes, in lent numbers, one for each node that a search can have: number q is the node from which
+// q was reached.
 #[derive(Drop)]
 pub struct Notes<'a> {
     before: &'a mut [u16],
+    ghost fits: { 402 ≤ length before.now },
 }
 
 impl<'a> Notes<'a> {
     // Notes that stand in the lent numbers already.
     pub fn over(before: &'a mut [u16]) -> Notes<'a>
+        requires { 402 ≤ length before.old }
         ensures notes { result.before.now ≡ before.old }
         ensures same_reference { result.before.ghost_name ≡ before.entry.ghost_name }
     {
@@ -25,7 +28,7 @@ impl<'a> Notes<'a> {
 
     // Notes that q was reached from p. That the notes lie over the same numbers has to be said.
     pub fn note(&mut self, q: u16, p: u16)
-        requires { q < length self.old.before.now }
+        requires { q < 402 }
         ensures notes { self.new.before.now ≡ slice_set self.old.before.now q p }
         ensures same_reference { self.new.before.ghost_name ≡ self.old.before.ghost_name }
     {

@@ -1,5 +1,5 @@
 // One unit more of a flow, pushed along a list of nodes.
-ghost use Rattle.std.specs.Prelude.{◌≡◌, ◌<◌, ◌≤◌, length, All};
+ghost use Rattle.std.specs.Prelude.{◌≡◌, ◌<◌, All};
 ghost use Rattle.flows.specs.Flow.{stepped, pushed};
 ghost use Rattle.rows.specs.Flow.{carried};
 
@@ -7,10 +7,9 @@ use rows::flow::Arcs;
 
 // One step from p to q: an arc back is taken out, else the arc is put in.
 fn step(flow: &mut Arcs<'_>, p: u16, q: u16)
-    requires { (3216 ≤ length flow.old.words.now) × ((p < 402) × (q < 402)) }
+    requires { (p < 402) × (q < 402) }
     ensures arcs { carried flow.new ≡ stepped (carried flow.old) p q }
     ensures same_reference { flow.new.words.ghost_name ≡ flow.old.words.ghost_name }
-    ensures size { length flow.new.words.now ≡ length flow.old.words.now }
 {
     if flow.carries(q, p) {
         flow.take(q, p);
@@ -21,11 +20,9 @@ fn step(flow: &mut Arcs<'_>, p: u16, q: u16)
 
 // Pushes one unit along a list of nodes, step by step.
 pub fn augment(flow: &mut Arcs<'_>, path: &[u16])
-    requires room { 3216 ≤ length flow.old.words.now }
-    requires nodes { All (λ x. x < 402) path.now }
+    requires { All (λ x. x < 402) path.now }
     ensures arcs { carried flow.new ≡ pushed (carried flow.old) path.now }
     ensures same_reference { flow.new.words.ghost_name ≡ flow.old.words.ghost_name }
-    ensures size { length flow.new.words.now ≡ length flow.old.words.now }
 {
     for [p, q] in path.array_windows::<2>() {
         step(flow, *p, *q);

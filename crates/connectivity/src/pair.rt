@@ -5,10 +5,11 @@ ghost use Rattle.plan.specs.Buffers.{in_front};
 ghost use Rattle.connectivity.specs.Asking.{sizes_of, ends_reply, loose_reply, edge_reply, vertex_reply, cut_in};
 
 use crate::run::{RunCount, complete};
-use crate::work::{FlowMemory, Scratch, Sizes, WORDS, Work};
+use crate::work::{Scratch, Sizes, WORDS, Work};
 use cuts::Edge;
 use model::{Refusal, Vertex};
 use plan::{CutPlan, Line, Split};
+use rows::flow::Arcs;
 use store::Map;
 
 // Refuses a and b unless enough memory is lent and they are two vertices.
@@ -40,7 +41,7 @@ fn settle<P: CutPlan>(
     plan: &mut P,
     a: u16,
     b: u16,
-    flow: &mut FlowMemory<'_>,
+    flow: &mut Arcs<'_>,
     scratch: &mut Scratch<'_, '_, '_>,
     cut: &mut [P::Item],
 ) -> u16
@@ -81,7 +82,7 @@ pub fn edge_cut_between<M: Map>(
         nodes,
         steps,
     } = work;
-    let mut flow = FlowMemory::over(&mut words[0..WORDS]);
+    let mut flow = Arcs::over(&mut words[0..WORDS]);
     let mut scratch = Scratch::over(numbers, nodes, steps);
     Ok(settle(line, a, b, &mut flow, &mut scratch, cut))
 }
@@ -110,7 +111,7 @@ pub fn vertex_cut_between<M: Map>(
         nodes,
         steps,
     } = work;
-    let mut flow = FlowMemory::over(&mut words[0..WORDS]);
+    let mut flow = Arcs::over(&mut words[0..WORDS]);
     let mut scratch = Scratch::over(numbers, nodes, steps);
     Ok(settle(split, a, b, &mut flow, &mut scratch, cut))
 }

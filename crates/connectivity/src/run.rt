@@ -12,9 +12,10 @@ ghost use Rattle.rows.specs.Marks.{marked};
 ghost use Rattle.plan.specs.Buffers.{in_front};
 ghost use Rattle.connectivity.specs.Runs.{Held, Largest, PushedOn, EndedAt};
 
-use crate::work::{FlowMemory, Scratch};
+use crate::work::Scratch;
 use augment::augment;
 use plan::CutPlan;
+use rows::flow::Arcs;
 use rows::marks::Marks;
 use search::search;
 use std::ops::ControlFlow;
@@ -60,19 +61,14 @@ pub(crate) type Pushed = ControlFlow<Finished, Searching>;
 
 impl Searching {
     // Begins a run: the memory holds no flow, and the count is one higher.
-    pub(crate) fn begin(
-        count: &mut RunCount,
-        flow: &mut FlowMemory<'_>,
-        from: u16,
-        to: u16,
-    ) -> Searching
+    pub(crate) fn begin(count: &mut RunCount, flow: &mut Arcs<'_>, from: u16, to: u16) -> Searching
         requires { count.old.begun + 1 < 4294967296 }
         ensures counted { count.new.begun ≡ count.old.begun + 1 }
         ensures run { result ≡ record { from = from; to = to; value = 0 } }
-        ensures flow { (d : Digraph) → Flow d from to (carried flow.new.arcs) 0 }
+        ensures flow { (d : Digraph) → Flow d from to (carried flow.new) 0 }
     {
         count.begun += 1;
-        flow.arcs.wipe();
+        flow.wipe();
         Searching { from, to, value: 0 }
     }
 
@@ -81,17 +77,17 @@ impl Searching {
     fn seek<P: CutPlan>(
         &self,
         plan: &mut P,
-        flow: &FlowMemory<'_>,
+        flow: &Arcs<'_>,
         scratch: &mut Scratch<'_, '_, '_>,
     ) -> bool
         requires asked { P.CutPlan.asked plan.old self.now.from self.now.to }
         ensures same { plan.new ≡ plan.old }
-        ensures noted { result ≡ true → Trail (residual (P.Plan.digraph plan.old) (carried flow.now.arcs)) self.now.from self.now.to scratch.new.notes.before.now }
-        ensures stuck { result ≡ false → residual_side (P.Plan.digraph plan.old) (carried flow.now.arcs) self.now.from self.now.to ≡ false }
+        ensures noted { result ≡ true → Trail (residual (P.Plan.digraph plan.old) (carried flow.now)) self.now.from self.now.to scratch.new.notes.before.now }
+        ensures stuck { result ≡ false → residual_side (P.Plan.digraph plan.old) (carried flow.now) self.now.from self.now.to ≡ false }
     {
         search(
             plan,
-            &flow.arcs,
+            flow,
             &mut Marks::none(),
             &mut scratch.notes,
             &mut scratch.steps,
@@ -105,21 +101,21 @@ impl Searching {
     fn advance<P: CutPlan>(
         &self,
         plan: &mut P,
-        flow: &mut FlowMemory<'_>,
+        flow: &mut Arcs<'_>,
         scratch: &mut Scratch<'_, '_, '_>,
     ) -> bool
         requires asked { P.CutPlan.asked plan.old self.now.from self.now.to }
-        requires flow { Held (P.Plan.digraph plan.old) self.now flow.old.arcs }
+        requires flow { Held (P.Plan.digraph plan.old) self.now flow.old }
         ensures same { plan.new ≡ plan.old }
-        ensures pushed { result ≡ true → Flow (P.Plan.digraph plan.old) self.now.from self.now.to (carried flow.new.arcs) (self.now.value + 1) }
+        ensures pushed { result ≡ true → Flow (P.Plan.digraph plan.old) self.now.from self.now.to (carried flow.new) (self.now.value + 1) }
         ensures kept { result ≡ false → flow.new ≡ flow.old }
-        ensures stuck { result ≡ false → residual_side (P.Plan.digraph plan.old) (carried flow.old.arcs) self.now.from self.now.to ≡ false }
+        ensures stuck { result ≡ false → residual_side (P.Plan.digraph plan.old) (carried flow.old) self.now.from self.now.to ≡ false }
     {
         if !self.seek(plan, flow, scratch) {
             return false;
         }
         let path = scratch.notes.trace(self.from, self.to);
-        augment(&mut flow.arcs, path.as_slice());
+        augment(flow, path.as_slice());
         true
     }
 
@@ -127,13 +123,13 @@ impl Searching {
     pub(crate) fn push<P: CutPlan>(
         self,
         plan: &mut P,
-        flow: &mut FlowMemory<'_>,
+        flow: &mut Arcs<'_>,
         scratch: &mut Scratch<'_, '_, '_>,
     ) -> Pushed
         requires asked { P.CutPlan.asked plan.old self.from self.to }
-        requires flow { Held (P.Plan.digraph plan.old) self flow.old.arcs }
+        requires flow { Held (P.Plan.digraph plan.old) self flow.old }
         ensures same { plan.new ≡ plan.old }
-        ensures after { PushedOn (P.Plan.digraph plan.old) self result flow.new.arcs }
+        ensures after { PushedOn (P.Plan.digraph plan.old) self result flow.new }
         ensures value { EndedAt (P.CutPlan.valued plan.old self.from self.to) result }
     {
         let found = self.advance(plan, flow, scratch);
@@ -167,18 +163,18 @@ impl Finished {
     fn mark_side<P: CutPlan>(
         &self,
         plan: &mut P,
-        flow: &FlowMemory<'_>,
+        flow: &Arcs<'_>,
         marks: &mut Marks,
         scratch: &mut Scratch<'_, '_, '_>,
     )
         requires asked { P.CutPlan.asked plan.old self.now.from self.now.to }
         ensures same { plan.new ≡ plan.old }
-        ensures side { (q : ℕ) → marked marks.new q ≡ residual_side (P.Plan.digraph plan.old) (carried flow.now.arcs) self.now.from q }
+        ensures side { (q : ℕ) → marked marks.new q ≡ residual_side (P.Plan.digraph plan.old) (carried flow.now) self.now.from q }
     {
         let from = self.from;
         search(
             plan,
-            &flow.arcs,
+            flow,
             marks,
             &mut scratch.notes,
             &mut scratch.nodes,
@@ -191,12 +187,12 @@ impl Finished {
     fn sweep<P: CutPlan>(
         &self,
         plan: &mut P,
-        flow: &FlowMemory<'_>,
+        flow: &Arcs<'_>,
         marks: &mut Marks,
         scratch: &mut Scratch<'_, '_, '_>,
     )
         requires asked { P.CutPlan.asked plan.old self.now.from self.now.to }
-        requires largest { Largest (P.Plan.digraph plan.old) self.now flow.now.arcs }
+        requires largest { Largest (P.Plan.digraph plan.old) self.now flow.now }
         ensures same { plan.new ≡ plan.old }
         ensures side { P.CutPlan.crossing plan.old self.now.from (marked marks.new) ≡ P.CutPlan.nearest plan.old self.now.from self.now.to }
     {
@@ -208,12 +204,12 @@ impl Finished {
     pub(crate) fn write_cut<P: CutPlan>(
         &self,
         plan: &mut P,
-        flow: &FlowMemory<'_>,
+        flow: &Arcs<'_>,
         scratch: &mut Scratch<'_, '_, '_>,
         cut: &mut [P::Item],
     ) -> usize
         requires asked { P.CutPlan.asked plan.old self.now.from self.now.to }
-        requires largest { Largest (P.Plan.digraph plan.old) self.now flow.now.arcs }
+        requires largest { Largest (P.Plan.digraph plan.old) self.now flow.now }
         requires room { length (P.CutPlan.nearest plan.old self.now.from self.now.to) ≤ length cut.old }
         ensures same { plan.new ≡ plan.old }
         ensures count { result ≡ length (P.CutPlan.nearest plan.old self.now.from self.now.to) }
@@ -229,7 +225,7 @@ impl Finished {
 pub(crate) fn complete<P: CutPlan>(
     count: &mut RunCount,
     plan: &mut P,
-    flow: &mut FlowMemory<'_>,
+    flow: &mut Arcs<'_>,
     scratch: &mut Scratch<'_, '_, '_>,
     from: u16,
     to: u16,
@@ -239,7 +235,7 @@ pub(crate) fn complete<P: CutPlan>(
     ensures counted { count.new.begun ≡ count.old.begun + 1 }
     ensures same { plan.new ≡ plan.old }
     ensures run { result ≡ record { from = from; to = to; value = P.CutPlan.valued plan.old from to } }
-    ensures largest { Largest (P.Plan.digraph plan.old) result flow.new.arcs }
+    ensures largest { Largest (P.Plan.digraph plan.old) result flow.new }
 {
     let mut run = Searching::begin(count, flow, from, to);
     loop {

@@ -5,7 +5,6 @@ ghost use Rattle.connectivity.specs.Work.{short};
 
 use augment::Notes;
 use ring::Step;
-use rows::flow::Arcs;
 use search::Slots;
 
 // How many words, numbers, and cells of each kind of item that waits, a question needs.
@@ -40,25 +39,6 @@ impl<'w, 'm, 'n, 's> Work<'w, 'm, 'n, 's> {
     }
 }
 
-// The flow of a run, in words enough for every node that a plan has.
-#[derive(Drop)]
-pub(crate) struct FlowMemory<'w> {
-    pub arcs: Arcs<'w>,
-    ghost fits: { 3216 ≤ length arcs.words.now },
-}
-
-impl<'w> FlowMemory<'w> {
-    // The arcs that the lent words say.
-    pub(crate) fn over(words: &'w mut [u64]) -> FlowMemory<'w>
-        requires { 3216 ≤ length words.old }
-        ensures { result.arcs.words.now ≡ words.old }
-    {
-        FlowMemory {
-            arcs: Arcs::over(words),
-        }
-    }
-}
-
 // What a search writes besides its marks: the notes for the way back, with a number for every node
 // that a plan has, and the slots of the two kinds of items that wait. Nothing of it is read after
 // the search but the notes.
@@ -67,7 +47,6 @@ pub(crate) struct Scratch<'m, 'n, 's> {
     pub notes: Notes<'m>,
     pub nodes: Slots<'n, u16>,
     pub steps: Slots<'s, Step>,
-    ghost fits: { 402 ≤ length notes.before.now },
 }
 
 impl<'m, 'n, 's> Scratch<'m, 'n, 's> {

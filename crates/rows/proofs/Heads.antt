@@ -1,10 +1,10 @@
 -- What the words of a set of arcs say: of a row, with every word 0, and with one bit set or cleared.
-use Rattle.std.proofs.Common.{◌≡◌, ℕ, ◌+◌, ◌-◌, ◌*◌, ◌/◌, ◌<◌, ◌≤◌, Bool, true, false, cond, ◌&&◌, eqb, ltb, List, length, min, replicate, sym, refl, ap, ◌∙◌, ⊎_elim, arith, length-take}
+use Rattle.std.proofs.Common.{◌≡◌, ℕ, ◌+◌, ◌-◌, ◌*◌, ◌/◌, ◌<◌, ◌≤◌, Bool, true, false, cond, ◌&&◌, eqb, ltb, List, length, replicate, sym, refl, ap, ◌∙◌, ⊎_elim, arith, length-take}
 use mathlib.Core.Path.{fun_ext}
 use Rattle.std.specs.List.{between}
 use Rattle.std.proofs.lemmas.Bool.{cases_lt, lt-ltb, le-ltb, eqb-true, ne_eqb, and_parts, and_from, and_left, and_right}
 use Rattle.graph.specs.Graph.{first}
-use Rattle.graph.proofs.Firsts.{first_ext, first_short}
+use Rattle.graph.proofs.Firsts.{first_ext}
 use Rattle.bits.specs.Bits.{has}
 use Rattle.bits.proofs.Parts.{has_past, part_has}
 use Rattle.bits.proofs.Writes.{or_mask, and_mask}
@@ -27,28 +27,21 @@ carried_in : (a : Arcs) (q p : ℕ) → q < 448 → p < 512 → has a.words.now 
 unfolding carried
 carried_in a q p h k = rw (lt-ltb q 448 h, lt-ltb p 512 k)
 
--- The used words of a row, as far as the words go, have the row's arcs and no more.
-pub row_says : (a : Arcs) (p from to : ℕ) → p < 512 → from ≡ min (8 * p) (length a.words.now) → to ≡ min (from + 7) (length a.words.now)
-    → (q : ℕ) → has (between from to a.words.now) 0 q ≡ carried a q p
-row_says a p from to head start end q =
+-- The used words of a row have the row's arcs and no more.
+pub row_says : (a : Arcs) (p : ℕ) → p < 512 → (q : ℕ) → has (between (8 * p) (8 * p + 7) a.words.now) 0 q ≡ carried a q p
+row_says a p head q =
     let xs = a.words.now in
-    let long : length (between from to xs) ≤ to - from = simp length-take (omega arith) in
-    let none = λ (h : to - from ≤ q / 64). has_past (between from to xs) 0 q (omega arith) in
+    let long : length (between (8 * p) (8 * p + 7) xs) ≤ 7 = simp length-take (omega arith) in
     ⊎_elim
-    (λ t. ⊎_elim
-    (λ h. let here : from ≡ 8 * p = omega arith in
-    part_has xs from to q h ∙ ap (λ (base : ℕ). has xs base q) here ∙ carried_in a q p t head)
-    (λ h. none (omega arith) ∙ sym (has_past xs (8 * p) q (omega arith)) ∙ carried_in a q p t head)
-    (cases_lt (from + q / 64) to))
-    (λ t. none (omega arith) ∙ sym (tail_past a q p t))
+    (λ t. part_has xs (8 * p) (8 * p + 7) q (omega arith) ∙ carried_in a q p t head)
+    (λ t. has_past (between (8 * p) (8 * p + 7) xs) 0 q (omega arith) ∙ sym (tail_past a q p t))
     (cases_lt q 448)
 
--- Looking through so many words finds the tails of the row's arcs.
-pub tails_found : (a : Arcs) (row : List ℕ) (p w : ℕ) → length row ≤ 7 → ((q : ℕ) → has row 0 q ≡ carried a q p)
+-- Looking through seven words finds the tails of the row's arcs.
+pub tails_found : (a : Arcs) (row : List ℕ) (p w : ℕ) → length row ≡ 7 → ((q : ℕ) → has row 0 q ≡ carried a q p)
     → first (has row 0) w (64 * length row - w) ≡ first (λ q. carried a q p) w (448 - w)
-tails_found a row p w short says =
-    sym (first_short (has row 0) w (64 * length row) 448 (omega arith) (λ k low high. has_past row 0 k (omega arith)))
-    ∙ first_ext (has row 0) (λ q. carried a q p) w (448 - w) (λ k low high. says k)
+tails_found a row p w size says =
+    ap (λ (n : ℕ). first (has row 0) w (64 * n - w)) size ∙ first_ext (has row 0) (λ q. carried a q p) w (448 - w) (λ k low high. says k)
 
 -- Words that are all 0 have no arc.
 pub none_carried : (a : Arcs) (n : ℕ) → a.words.now ≡ replicate n 0 → carried a ≡ (λ x y. false)

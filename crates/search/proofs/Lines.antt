@@ -7,7 +7,7 @@
 --   value_in, found_in                 how the goal is found, in such a plan
 --   taken_first                        the first of a line is taken to be looked at
 --   arcs_done                          its arcs have been looked at
-use Rattle.std.proofs.Common.{◌≡◌, ℕ, ◌+◌, ◌-◌, ◌<◌, ◌≤◌, Bool, true, false, ◌||◌, eqb, List, ◌∷◌, map, length, set, Some, None, Option, sym, ap, ◌∙◌, subst, length-set, MatchOption}
+use Rattle.std.proofs.Common.{◌≡◌, ℕ, ◌+◌, ◌-◌, ◌<◌, ◌≤◌, Bool, true, false, ◌||◌, eqb, List, ◌∷◌, map, length, Some, None, Option, sym, ap, ◌∙◌, subst, MatchOption}
 use Rattle.graph.specs.Graph.{first}
 use Rattle.graph.proofs.Firsts.{Found, first_some, first_all}
 use Rattle.flows.specs.Flow.{Digraph, residual}
@@ -15,7 +15,6 @@ use Rattle.augment.specs.Trails.{Trail}
 use Rattle.search.specs.Goals.{goal_from, goal_noted}
 use Rattle.search.specs.Steps.{along, fresh}
 use Rattle.search.proofs.States.{State, Nobody, unmarked}
-use Rattle.augment.specs.declared.notes.Notes.{Notes}
 use Rattle.search.proofs.Turns.{Turn, taken, recounted, along_all}
 
 -- Equal tests say the same of each number.
@@ -78,15 +77,3 @@ module _ {X : Type 0} (D : X → Digraph) {f : ℕ → ℕ → Bool} {s : ℕ} {
   pub arcs_done : {a b c : X} {queue : List ℕ} {v e : ℕ} → a ≡ b → c ≡ a → n ≡ (D b).nodes → None ≡ first (fresh m (along (D a) f p)) v (n - v)
       → Turn (D b) f s goal p v 0 queue m before e → Turn (D c) f s goal p n 0 queue m before (length queue + unmarked m n)
   arcs_done {v = v} ab ca nodes h t = rw (ca, ab) (recounted (along_all t nodes (along_none D ab f m p v nodes h)) nodes)
-
--- Notes that lie over the same numbers as others, as many.
-abbrev pub Lies : Notes → Notes → Type 0
-Lies now first = (now.before.ghost_name ≡ first.before.ghost_name) × (length now.before.now ≡ length first.before.now)
-
--- They do so still after one more is noted.
-pub lies_on : (a b c : Notes) (q p : ℕ) → b.before.now ≡ set a.before.now q p → b.before.ghost_name ≡ a.before.ghost_name → Lies a c → Lies b c
-lies_on a b c q p e same l = (same ∙ l.0, ap length e ∙ length-set a.before.now q p ∙ l.1)
-
--- And over those that these lie over.
-pub lies_over : (a b c : Notes) → Lies a b → Lies b c → Lies a c
-lies_over a b c l m = (l.0 ∙ m.0, l.1 ∙ m.1)

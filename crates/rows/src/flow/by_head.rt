@@ -1,5 +1,5 @@
 // What a search and a flow ask of a set of arcs, and the writes. That a set lies over the same words
-// after a write (`same_reference`), as many (`size`), has to be said of each.
+// after a write (`same_reference`) has to be said of each.
 ghost use Rattle.std.specs.Prelude.{◌≡◌, ℕ, ◌+◌, ◌-◌, ◌*◌, ◌<◌, ◌≤◌, true, false, length};
 ghost use Rattle.graph.specs.Graph.{first};
 ghost use Rattle.bits.specs.Bits.{has};
@@ -17,6 +17,7 @@ const ROWS: u16 = 512;
 impl<'a> Arcs<'a> {
     // The arcs that the words say.
     pub fn over(words: &'a mut [u64]) -> Arcs<'a>
+        requires { 4096 ≤ length words.old }
         ensures words { result.words.now ≡ words.old }
         ensures same_reference { result.words.ghost_name ≡ words.entry.ghost_name }
     {
@@ -28,22 +29,19 @@ impl<'a> Arcs<'a> {
     pub fn wipe(&mut self)
         ensures arcs { carried self.new ≡ (λ x y. false) }
         ensures same_reference { self.new.words.ghost_name ≡ self.old.words.ghost_name }
-        ensures size { length self.new.words.now ≡ length self.old.words.now }
     {
         self.words.fill(0);
     }
 
-    // The used words of the row of head p, as far as the words go.
+    // The used words of the row of head p.
     #[tactic(auto, using(crate::proofs::Heads::row_says))]
     fn row(&self, p: u16) -> &[u64]
         requires { p < 512 }
         ensures bits { (q : ℕ) → has result.now 0 q ≡ carried self.now q p }
-        ensures short { length result.now ≤ 7 }
+        ensures size { length result.now ≡ 7 }
     {
-        let len = self.words.len();
-        let from = (ROW_WORDS * p as usize).min(len);
-        let to = (from + USED_WORDS).min(len);
-        &self.words[from..to]
+        let at = ROW_WORDS * p as usize;
+        &self.words[at..at + USED_WORDS]
     }
 
     // Whether the flow goes along the arc from q to p.
@@ -56,33 +54,29 @@ impl<'a> Arcs<'a> {
 
     // Puts the arc from q to p in, or takes it out.
     fn write(&mut self, q: u16, p: u16, on: bool)
-        requires { (8 * p + 8 ≤ length self.old.words.now) × ((q < 448) × (p < 512)) }
+        requires { (q < 448) × (p < 512) }
         ensures put { on ≡ true → carried self.new ≡ with_arc (carried self.old) q p }
         ensures taken { on ≡ false → carried self.new ≡ without_arc (carried self.old) q p }
         ensures same_reference { self.new.words.ghost_name ≡ self.old.words.ghost_name }
-        ensures size { length self.new.words.now ≡ length self.old.words.now }
     {
         let at = ROW_WORDS * p as usize;
         bits::set(&mut self.words[at..at + ROW_WORDS], q, on);
     }
 
-    // Puts the arc from q to p in. Two names, as a set has insert and remove. The place is asked
-    // of each, since it depends on the arc and can't be a fact about the set.
+    // Puts the arc from q to p in. Two names, as a set has insert and remove.
     pub fn put(&mut self, q: u16, p: u16)
-        requires { (8 * p + 8 ≤ length self.old.words.now) × ((q < 448) × (p < 512)) }
+        requires { (q < 448) × (p < 512) }
         ensures arcs { carried self.new ≡ with_arc (carried self.old) q p }
         ensures same_reference { self.new.words.ghost_name ≡ self.old.words.ghost_name }
-        ensures size { length self.new.words.now ≡ length self.old.words.now }
     {
         self.write(q, p, true);
     }
 
     // Takes the arc from q to p out.
     pub fn take(&mut self, q: u16, p: u16)
-        requires { (8 * p + 8 ≤ length self.old.words.now) × ((q < 448) × (p < 512)) }
+        requires { (q < 448) × (p < 512) }
         ensures arcs { carried self.new ≡ without_arc (carried self.old) q p }
         ensures same_reference { self.new.words.ghost_name ≡ self.old.words.ghost_name }
-        ensures size { length self.new.words.now ≡ length self.old.words.now }
     {
         self.write(q, p, false);
     }

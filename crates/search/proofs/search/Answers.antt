@@ -8,7 +8,7 @@ use Rattle.search.specs.Steps.{along, back, fresh}
 use Rattle.search.proofs.States.{State, Nobody, unmarked, begun, ended, missed}
 use Rattle.search.proofs.Finds.{goal_node, goal_apart, goal_fits, passed_by, step_on}
 use Rattle.search.proofs.Turns.{Turn, back_all, along_step, found, has_room, by_along, by_back}
-use Rattle.search.proofs.Lines.{each, first_marks, along_found, found_at, none_at, value_in, found_in, taken_first, arcs_done, lies_on, lies_over}
+use Rattle.search.proofs.Lines.{each, first_marks, along_found, found_at, none_at, value_in, found_in, taken_first, arcs_done}
 use Rattle.search.proofs.search.Given as given
 use Rattle.search.proofs.search.Goals as goal
 use Rattle.search.proofs.search.Goals.{After-finds_goal, After-next_along, In-Some-next_along, After-finds_goal-in-Some-next_along, After-next_back, In-Some-next_back, After-finds_goal-in-Some-next_back}
@@ -49,7 +49,7 @@ next_ahead g c = along_found g.P.Plan.digraph c.along.invariant.0 _ _ _ _ c.sear
 -- There is room to note the node before it.
 wide_ahead : (g : given.Over) (c : In-Some-next_along g) → c.in-Some-next_along.q < length c.along.notes.before.now
 wide_ahead g c =
-    omega (arith, (next_ahead g c).below, g.P.Plan.small c.search.plan, c.requires.memory, c.finds_goal.ensures.size, c.search.invariant.5.1, c.along.invariant.5.1)
+    omega (arith, (next_ahead g c).below, g.P.Plan.small c.search.plan, c.along.notes.fits)
 
 -- The arcs of the node have been looked at, and the plan is as it was.
 nodes_behind : (g : given.Over) (c : After-next_back g) → c.node_count-n.result ≡ (g.P.Plan.digraph c.next_along.new.plan).nodes
@@ -76,7 +76,7 @@ next_behind g c = found_at _ _ (nodes_behind g (goal.at.In-Some-next_back g c).A
 wide_behind : (g : given.Over) (c : In-Some-next_back g) → c.in-Some-next_back.q < length c.back.notes.before.now
 wide_behind g c =
     let small = g.P.Plan.small c.next_along.new.plan in
-    omega (arith, (next_behind g c).below, small, c.requires.memory, c.finds_goal.ensures.size, c.search.invariant.5.1, c.along.invariant.5.1, c.back.invariant.4.1)
+    omega (arith, (next_behind g c).below, small, c.back.notes.fits)
 
 pub search-init : goal.search-init
 search-init g c =
@@ -87,11 +87,11 @@ search-init g c =
       rw same c.node_count-n.ensures.value,
       omega (arith, c.enter.ensures.room, c.new-line.ensures.room, c.args.slots.now.fits),
       rw same (state_first g at.After-finds_goal c.finds_goal.new.notes.before.now),
-      (refl, refl),
+      refl,
     )
 
 pub note-requires : goal.note-requires
-note-requires g c = wide_ahead g (goal.at.note-requires g c).In-Some-next_along
+note-requires g c = omega (arith, (next_ahead g (goal.at.note-requires g c).In-Some-next_along).below, g.P.Plan.small c.search.plan)
 
 pub enter-requires-in-Some-next_along : goal.enter-requires-in-Some-next_along
 enter-requires-in-Some-next_along g c =
@@ -123,13 +123,12 @@ along-preserved g c =
       omega (arith, c.enter-in-Some-next_along.ensures.room, c.along.invariant.3),
       λ _. by_along (turn_ahead g at.After-next_along) (wide_ahead g at.In-Some-next_along) after.1 (each c.enter-in-Some-next_along.ensures.marks)
           c.enter-in-Some-next_along.ensures.nodes after.0 (next_ahead g at.In-Some-next_along),
-      lies_over c.finds_goal-in-Some-next_along.new.notes c.note.new.self c.search.notes
-          (c.finds_goal-in-Some-next_along.ensures.same_reference, c.finds_goal-in-Some-next_along.ensures.size)
-          (lies_on c.along.notes c.note.new.self c.search.notes c.in-Some-next_along.q c.node-p.result c.note.ensures.notes c.note.ensures.same_reference c.along.invariant.5),
+      c.finds_goal-in-Some-next_along.ensures.same_reference ∙ c.note.ensures.same_reference ∙ c.along.invariant.5,
     )
 
 pub note-requires-in-Some-next_back : goal.note-requires-in-Some-next_back
-note-requires-in-Some-next_back g c = wide_behind g (goal.at.note-requires-in-Some-next_back g c).In-Some-next_back
+note-requires-in-Some-next_back g c =
+    omega (arith, (next_behind g (goal.at.note-requires-in-Some-next_back g c).In-Some-next_back).below, g.P.Plan.small c.next_along.new.plan)
 
 pub enter-requires-in-Some-next_back : goal.enter-requires-in-Some-next_back
 enter-requires-in-Some-next_back g c =
@@ -160,10 +159,7 @@ back-preserved g c =
       omega (arith, c.enter-in-Some-next_back.ensures.room, c.back.invariant.2),
       λ _. by_back (turn_behind g at.After-next_back) (wide_behind g at.In-Some-next_back) after.1 (each c.enter-in-Some-next_back.ensures.marks)
           c.enter-in-Some-next_back.ensures.nodes after.0 (next_behind g at.In-Some-next_back),
-      lies_over c.finds_goal-in-Some-next_back.new.notes c.note-in-Some-next_back.new.self c.along.notes
-          (c.finds_goal-in-Some-next_back.ensures.same_reference, c.finds_goal-in-Some-next_back.ensures.size)
-          (lies_on c.back.notes c.note-in-Some-next_back.new.self c.along.notes c.in-Some-next_back.q c.node-p.result c.note-in-Some-next_back.ensures.notes
-          c.note-in-Some-next_back.ensures.same_reference c.back.invariant.4),
+      c.finds_goal-in-Some-next_back.ensures.same_reference ∙ c.note-in-Some-next_back.ensures.same_reference ∙ c.back.invariant.4,
     )
 
 pub search-smaller : goal.search-smaller
@@ -185,8 +181,7 @@ search-preserved g c =
       rw c.back.invariant.0 nodes,
       c.back.invariant.2,
       rw (← behind) (back_all (turn_behind g at.After-next_back) nodes (none_at _ _ nodes c.in_default-next_back.ensures)),
-      lies_over c.back.notes c.along.notes c.finds_goal.new.notes c.back.invariant.4
-          (lies_over c.along.notes c.search.notes c.finds_goal.new.notes c.along.invariant.5 c.search.invariant.5),
+      c.back.invariant.4 ∙ c.along.invariant.5 ∙ c.search.invariant.5,
     )
 
 pub returns-then-finds_goal-clause-found : goal.returns-then-finds_goal-clause-found
@@ -194,7 +189,7 @@ returns-then-finds_goal-clause-found g c _ =
     let at = goal.at.returns-then-finds_goal-clause-found g c in
     let f = carried c.args.flow.now in
     let node = goal_first g at.After-finds_goal in
-    let fits = goal_fits c.args.goal node (omega (arith, g.P.Plan.small c.args.plan.now, c.requires.memory)) in
+    let fits = goal_fits c.args.goal node (omega (arith, g.P.Plan.small c.args.plan.now, c.args.notes.now.fits)) in
     let start = state_first g at.After-finds_goal c.args.notes.now.before.now in
     found_in g.P.Plan.digraph c.node_count-n.ensures.same f c.args.goal c.args.from c.args.from c.args.notes.now.before.now c.finds_goal.ensures.notes
     (step_on (along (g.P.Plan.digraph c.args.plan.now) f c.args.from) (along_step (g.P.Plan.digraph c.args.plan.now) f c.args.from) c.args.goal start start.start
@@ -208,10 +203,7 @@ returns-then-finds_goal-2-clause-found g c _ =
     let kept = kept_ahead g at.After-next_along in
     let here = c.in-Some-next_along.ensures.same ∙ c.along.invariant.0 in
     let node : IfSome c.args.goal (λ t. t < (g.P.Plan.digraph c.search.plan).nodes) = rw kept (goal_first g at.After-finds_goal) in
-    let lies = lies_on c.along.notes c.note.new.self c.search.notes c.in-Some-next_along.q c.node-p.result c.note.ensures.notes c.note.ensures.same_reference
-    c.along.invariant.5 in
-    let fits = goal_fits c.args.goal node
-    (omega (arith, g.P.Plan.small c.search.plan, c.requires.memory, c.finds_goal.ensures.size, c.search.invariant.5.1, lies.1)) in
+    let fits = goal_fits c.args.goal node (omega (arith, g.P.Plan.small c.search.plan, c.note.new.self.fits)) in
     rw (← kept)
     (found_in g.P.Plan.digraph here f c.args.goal c.in-Some-next_along.q c.args.from c.note.new.self.before.now c.finds_goal-in-Some-next_along.ensures.notes
     (found (turn_ahead g at.After-next_along) (wide_ahead g at.In-Some-next_along) c.note.ensures.notes _ (next_ahead g at.In-Some-next_along)
@@ -224,10 +216,7 @@ returns-then-finds_goal-3-clause-found g c _ =
     let f = carried c.args.flow.now in
     let kept = c.in_default-next_along.ensures.same ∙ c.along.invariant.0 ∙ kept_ahead g at.After-next_along in
     let node : IfSome c.args.goal (λ t. t < (g.P.Plan.digraph c.next_along.new.plan).nodes) = rw kept (goal_first g at.After-finds_goal) in
-    let lies = lies_on c.back.notes c.note-in-Some-next_back.new.self c.along.notes c.in-Some-next_back.q c.node-p.result c.note-in-Some-next_back.ensures.notes
-    c.note-in-Some-next_back.ensures.same_reference c.back.invariant.4 in
-    let fits = goal_fits c.args.goal node
-    (omega (arith, g.P.Plan.small c.next_along.new.plan, c.requires.memory, c.finds_goal.ensures.size, c.search.invariant.5.1, c.along.invariant.5.1, lies.1)) in
+    let fits = goal_fits c.args.goal node (omega (arith, g.P.Plan.small c.next_along.new.plan, c.note-in-Some-next_back.new.self.fits)) in
     rw (← kept)
     (found_in g.P.Plan.digraph c.back.invariant.0 f c.args.goal c.in-Some-next_back.q c.args.from c.note-in-Some-next_back.new.self.before.now c.finds_goal-in-Some-next_back.ensures.notes
     (found (turn_behind g at.After-next_back) (wide_behind g at.In-Some-next_back) c.note-in-Some-next_back.ensures.notes _ (next_behind g at.In-Some-next_back)

@@ -6,7 +6,6 @@ use Rattle.rows.specs.Flow.{carried}
 use Rattle.rows.specs.Marks.{marked}
 use Rattle.search.proofs.States.{State, Nobody, unmarked}
 use Rattle.search.proofs.Turns.{Turn}
-use Rattle.search.proofs.Lines.{Lies}
 use Rattle.search.proofs.search.Given as goal
 
 abbrev pub invariant-search : goal.invariant-search
@@ -17,7 +16,7 @@ invariant-search g l =
     × (402 ≤ l.line.room)
     × State (g.P.Plan.digraph l.initial.plan) (carried l.flow) l.from l.goal Nobody
     (map g.E.Waiting.node l.line.items) (marked l.marks) l.notes.before.now
-    × Lies l.notes l.initial.notes
+    × (l.notes.before.ghost_name ≡ l.initial.notes.before.ghost_name)
 
 abbrev pub decreases-search : goal.decreases-search
 decreases-search g l = length (map g.E.Waiting.node l.line.items) + unmarked (marked l.marks) l.n
@@ -34,7 +33,7 @@ invariant-along g l =
     first (marked l.initial.marks) l.initial.notes.before.now e
     → Turn (g.P.Plan.digraph l.initial.plan) (carried l.flow) l.from l.goal l.p l.ahead 0
     (map g.E.Waiting.node l.line.items) (marked l.marks) l.notes.before.now e)
-    × Lies l.notes l.initial.notes
+    × (l.notes.before.ghost_name ≡ l.initial.notes.before.ghost_name)
 
 abbrev pub decreases-along : goal.decreases-along
 decreases-along g l = l.n - l.ahead
@@ -50,7 +49,7 @@ invariant-back g l =
     first (marked l.initial.marks) l.initial.notes.before.now e
     → Turn (g.P.Plan.digraph l.initial.plan) (carried l.flow) l.from l.goal l.p l.n l.behind
     (map g.E.Waiting.node l.line.items) (marked l.marks) l.notes.before.now e)
-    × Lies l.notes l.initial.notes
+    × (l.notes.before.ghost_name ≡ l.initial.notes.before.ghost_name)
 
 abbrev pub decreases-back : goal.decreases-back
 decreases-back g l = l.n - l.behind

@@ -11,10 +11,8 @@ pub step-requires : goal.step-requires
 step-requires c =
     let rest = windows_rest (array_windows_parts c.loop-p.p-iterator) in
     let turn = c.in-Some.ensures.steps.1 in
-    let size = c.loop-p.invariant.0 in (
-      omega (arith, c.requires.room, c.loop-p.invariant.4),
-      first_two (λ x. x < 402) rest c.in-Some.field-0.now (omega (arith, turn.0, size)) (turn.1 ∙ ap (λ (n : ℕ). take n rest) size) c.loop-p.invariant.2,
-    )
+    let size = c.loop-p.invariant.0 in
+    first_two (λ x. x < 402) rest c.in-Some.field-0.now (omega (arith, turn.0, size)) (turn.1 ∙ ap (λ (n : ℕ). take n rest) size) c.loop-p.invariant.2
 
 -- The step goes before what is left.
 pub loop-p-preserved : goal.loop-p-preserved
@@ -27,7 +25,6 @@ loop-p-preserved c =
       rw (turn.2, c.step.ensures.arcs) (pushed_step (carried c.loop-p.flow) rest c.in-Some.field-0.now (omega (arith, turn.0, size)) two ∙ c.loop-p.invariant.1),
       rw turn.2 (All-drop (λ x. x < 402) 1 rest c.loop-p.invariant.2),
       c.step.ensures.same_reference ∙ c.loop-p.invariant.3,
-      c.step.ensures.size ∙ c.loop-p.invariant.4,
     )
 
 -- Less than two nodes are left.

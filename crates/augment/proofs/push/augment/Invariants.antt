@@ -1,5 +1,5 @@
--- The words are as many as at first; what is pushed so far, and along the nodes that are left, is what is pushed along the whole list.
-use Rattle.std.proofs.Common.{◌≡◌, ◌<◌, ◌≤◌, length, All}
+-- The words are the same as at first; what is pushed so far, and along the nodes that are left, is what is pushed along the whole list.
+use Rattle.std.proofs.Common.{◌≡◌, ◌<◌, All}
 use Rattle.std.specs.Slice.ArrayWindows.{array_windows_parts}
 use Rattle.std.specs.Slice.Iter.{windows_rest, windows_size}
 use Rattle.flows.specs.Flow.{pushed}
@@ -14,4 +14,3 @@ invariant-loop-p l =
     × (pushed (carried l.flow) rest ≡ pushed (carried l.initial.flow) l.path)
     × All (λ x. x < 402) rest
     × (l.flow.words.ghost_name ≡ l.initial.flow.words.ghost_name)
-    × (length l.flow.words.now ≡ length l.initial.flow.words.now)

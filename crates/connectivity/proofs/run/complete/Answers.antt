@@ -18,5 +18,5 @@ loop-next-smaller g c =
     let next = c.in-Continue.next in
     let after = c.in-Continue.ensures.after in
     let more : next.value ≡ c.loop-next.run.value + 1 = ap (λ (r : Searching). r.value) after.0 in
-    let held : Held d next c.push.new.flow.arcs = rw (← c.loop-next.invariant.0) after.1 in
-    omega (arith, more, value_most d next.from next.to (carried c.push.new.flow.arcs) next.value held)
+    let held : Held d next c.push.new.flow = rw (← c.loop-next.invariant.0) after.1 in
+    omega (arith, more, value_most d next.from next.to (carried c.push.new.flow) next.value held)

@@ -9,7 +9,7 @@ invariant-loop-next g l =
     (l.plan ≡ l.initial.plan)
     × (l.run.from ≡ l.from)
     × (l.run.to ≡ l.to)
-    × Held (g.P.Plan.digraph l.initial.plan) l.run l.flow.arcs
+    × Held (g.P.Plan.digraph l.initial.plan) l.run l.flow
 
 abbrev pub decreases-loop-next : goal.decreases-loop-next
 decreases-loop-next g l = (g.P.Plan.digraph l.initial.plan).nodes - l.run.value

@@ -9,5 +9,5 @@ returns-clause-side g c =
     let p = c.args.plan.now in
     let run = c.args.self.now in
     let largest = c.requires.largest in
-    let told = g.met.P.CutPlan.told p run.from run.to (carried c.args.flow.now.arcs) run.value c.requires.asked largest.flow largest.stuck in
+    let told = g.met.P.CutPlan.told p run.from run.to (carried c.args.flow.now) run.value c.requires.asked largest.flow largest.stuck in
     ap (g.P.CutPlan.crossing p run.from) (fun_ext c.mark_side.ensures.side) ∙ sym told.1

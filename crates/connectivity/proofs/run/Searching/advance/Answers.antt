@@ -5,13 +5,13 @@ use Rattle.connectivity.proofs.Found.{read_nodes, read_adds}
 use Rattle.connectivity.proofs.run.Searching.advance.Goals as goal
 
 -- What was traced are nodes.
-pub augment-requires-clause-nodes : goal.augment-requires-clause-nodes
-augment-requires-clause-nodes g c =
+pub augment-requires : goal.augment-requires
+augment-requires g c =
     let p = c.args.plan.now in
     let run = c.args.self.now in
     let ends = g.met.P.CutPlan.two p run.from run.to c.requires.asked in
     rw (c.as_slice.ensures.value, c.trace-path.ensures)
-    (read_nodes (g.P.Plan.digraph p) run.from run.to (carried c.args.flow.now.arcs) run.value (g.P.Plan.small p) (g.P.Plan.sound p)
+    (read_nodes (g.P.Plan.digraph p) run.from run.to (carried c.args.flow.now) run.value (g.P.Plan.small p) (g.P.Plan.sound p)
     c.requires.flow ends.0 c.seek.new.scratch.notes.before.now (c.if-not-seek.ensures.noted refl))
 
 -- Pushing along it adds one.
@@ -21,5 +21,5 @@ returns-clause-pushed g c _ =
     let run = c.args.self.now in
     let ends = g.met.P.CutPlan.two p run.from run.to c.requires.asked in
     rw (c.augment.ensures.arcs, c.as_slice.ensures.value, c.trace-path.ensures)
-    (read_adds (g.P.Plan.digraph p) run.from run.to (carried c.args.flow.now.arcs) run.value (g.P.Plan.small p) (g.P.Plan.sound p)
+    (read_adds (g.P.Plan.digraph p) run.from run.to (carried c.args.flow.now) run.value (g.P.Plan.small p) (g.P.Plan.sound p)
     c.requires.flow ends.0 c.seek.new.scratch.notes.before.now (c.if-not-seek.ensures.noted refl) ends.2)
