@@ -2,7 +2,7 @@
 // map and the sets of a search are made of such words.
 #![tactic(auto)]
 
-ghost use Rattle.std.specs.Prelude.{◌≡◌, ℕ, ◌-◌, ◌*◌, ◌/◌, ◌<◌, ◌≤◌, Bool, false, not, length, drop, if◌then◌else◌, ◌==◌};
+ghost use Rattle.std.specs.Prelude.{◌≡◌, ℕ, ◌-◌, ◌*◌, ◌/◌, ◌<◌, not, length, drop, if◌then◌else◌, ◌==◌};
 ghost use Rattle.graph.specs.Graph.{first};
 ghost use Rattle.bits.specs.Bits.{bit, has, Written};
 

@@ -1,5 +1,5 @@
 // How a search finds its goal: at a node, or one step on from it.
-ghost use Rattle.std.specs.Prelude.{◌≡◌, ◌<◌, length, IfSome};
+ghost use Rattle.std.specs.Prelude.{◌≡◌, ◌<◌, IfSome};
 ghost use Rattle.rows.specs.Flow.{carried};
 ghost use Rattle.search.specs.Goals.{goal_from, goal_noted};
 ghost use Rattle.search.specs.Steps.{along};

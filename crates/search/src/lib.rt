@@ -1,10 +1,10 @@
 // The one search: breadth-first over what a flow leaves of a plan. It seeks a path to a goal,
-// leaving off the moment the goal is reached, or, without a goal, sweeps all that is reached.
+// leaving off the moment the goal is known to be reached, or, without a goal, sweeps all that is.
 // Three questions stay apart: which arc comes next, whether its node is marked, and whether the
 // flow leaves room on it.
 #![tactic(auto)]
 
-ghost use Rattle.std.specs.Prelude.{◌≡◌, ℕ, ◌<◌, ◌≤◌, true, false, length, IfSome, MatchOption, ◌≢◌};
+ghost use Rattle.std.specs.Prelude.{◌≡◌, ℕ, ◌<◌, true, false, IfSome, MatchOption, ◌≢◌};
 ghost use Rattle.flows.specs.Flow.{residual, residual_side};
 ghost use Rattle.rows.specs.Flow.{carried};
 ghost use Rattle.rows.specs.Marks.{marked};
@@ -28,7 +28,8 @@ use steps::{next_along, next_back};
 pub use waiting::Waiting;
 
 // Marks what `from` reaches by residual steps: along an arc on which the flow leaves room, or
-// back along the flow. With a goal it leaves off there, and the notes lead back.
+// back along the flow. With a goal it leaves off as soon as a node is found that is the goal or has
+// it one step ahead, and the notes lead back.
 // The answer is a flag and no path, since the path stands in the lent notes.
 // The two inner loops stay two: each asks another question and is left by its own break. They leap
 // from node to node, which a `for` would not.

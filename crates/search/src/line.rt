@@ -1,5 +1,5 @@
 // The line of the nodes that wait to be looked at. A node joins it once, as it is marked.
-ghost use Rattle.std.specs.Prelude.{◌≡◌, ◌<◌, ◌≤◌, ◌||◌, [], ◌∷◌, ◌++◌, map, length, ◌==◌};
+ghost use Rattle.std.specs.Prelude.{◌≡◌, ◌<◌, ◌||◌, [], ◌∷◌, ◌++◌, map, length, ◌==◌};
 ghost use Rattle.rows.specs.Marks.{marked};
 
 use crate::waiting::Waiting;

@@ -1,6 +1,6 @@
 // What a search and a flow ask of a set of arcs, and the writes. That a set lies over the same words
 // after a write (`same_reference`) has to be said of each.
-ghost use Rattle.std.specs.Prelude.{◌≡◌, ℕ, ◌+◌, ◌-◌, ◌*◌, ◌<◌, ◌≤◌, true, false, length};
+ghost use Rattle.std.specs.Prelude.{◌≡◌, ℕ, ◌-◌, ◌<◌, ◌≤◌, true, false, length};
 ghost use Rattle.graph.specs.Graph.{first};
 ghost use Rattle.bits.specs.Bits.{has};
 ghost use Rattle.rows.specs.Flow.{carried, with_arc, without_arc};
