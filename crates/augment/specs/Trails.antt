@@ -4,6 +4,7 @@
 --   Trail        a route whose nodes are noted
 --   walk_back    the nodes from t back to s, read from the notes
 --   route_back   the same nodes from s on to t
+--   ReadBack     a trail is read back from what it noted
 use Rattle.std.specs.Prelude.{◌≡◌, ℕ, zero, suc, ◌<◌, Bool, cond, List, [], ◌∷◌, reverse, All, ◌==◌, slice_index}
 use Rattle.flows.specs.Routes.{Route}
 

@@ -1,11 +1,12 @@
 // At each node that a search reaches, the node that it came from is noted; the route to a node is
 // read back from the notes.
 ghost use Rattle.std.specs.Prelude.{◌≡◌, ◌<◌, ◌≤◌, length, slice_index, slice_set};
+ghost use Rattle.graph.specs.Graph.{node_limit};
 ghost use Rattle.augment.specs.Trails.{walk_back, route_back, ReadBack};
 
 use arrayvec::ArrayVec;
 
-// A route has no node twice, and a search has at most so many nodes.
+// Two nodes for each of 201 vertices. A route has no node twice, so it is no longer.
 const MOST_NODES: usize = 402;
 
 // The notes, in lent numbers, one for each node that a search can have: number q is the node from which
@@ -13,13 +14,13 @@ const MOST_NODES: usize = 402;
 #[derive(Drop)]
 pub struct Notes<'a> {
     before: &'a mut [u16],
-    ghost fits: { 402 ≤ length before.now },
+    ghost fits: { node_limit ≤ length before.now },
 }
 
 impl<'a> Notes<'a> {
     // Notes that stand in the lent numbers already.
     pub fn over(before: &'a mut [u16]) -> Notes<'a>
-        requires { 402 ≤ length before.old }
+        requires { node_limit ≤ length before.old }
         ensures notes { result.before.now ≡ before.old }
         ensures same_reference { result.before.ghost_name ≡ before.entry.ghost_name }
     {
@@ -28,7 +29,7 @@ impl<'a> Notes<'a> {
 
     // Notes that q was reached from p. That the notes lie over the same numbers has to be said.
     pub fn note(&mut self, q: u16, p: u16)
-        requires { q < 402 }
+        requires { q < node_limit }
         ensures notes { self.new.before.now ≡ slice_set self.old.before.now q p }
         ensures same_reference { self.new.before.ghost_name ≡ self.old.before.ghost_name }
     {
@@ -44,7 +45,7 @@ impl<'a> Notes<'a> {
 
     // The nodes from `to` back to `from`.
     fn walk_back(&self, from: u16, to: u16) -> ArrayVec<u16, MOST_NODES>
-        ensures { result.items ≡ walk_back self.now.before.now from to 402 }
+        ensures { result.items ≡ walk_back self.now.before.now from to node_limit }
     {
         let mut path = ArrayVec::new();
         let mut at = to;
@@ -60,7 +61,7 @@ impl<'a> Notes<'a> {
 
     // The route from `from` to `to`.
     pub fn trace(&self, from: u16, to: u16) -> ArrayVec<u16, MOST_NODES>
-        ensures { result.items ≡ route_back self.now.before.now from to 402 }
+        ensures { result.items ≡ route_back self.now.before.now from to node_limit }
     {
         let mut path = self.walk_back(from, to);
         path.as_mut_slice().reverse();

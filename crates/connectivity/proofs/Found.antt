@@ -5,6 +5,7 @@
 --   read_adds     pushing along what is read back adds one to the flow
 --   value_most    a flow's value is at most the number of nodes
 use Rattle.std.proofs.Common.{◌≡◌, ℕ, ◌+◌, ◌<◌, ◌≤◌, Bool, true, List, [], ◌∷◌, All, subst, arith}
+use Rattle.graph.specs.Graph.{node_limit}
 use Rattle.std.proofs.lemmas.List.Elements.{All-nil, All-cons}
 use Rattle.graph.proofs.Counts.{count_most}
 use Rattle.flows.specs.Routes.{Walk}
@@ -25,23 +26,23 @@ inside r n stays a b (x ∷ []) h w = All-cons (λ z. z < n) x [] (rw w.0 h) (Al
 inside r n stays a b (x ∷ (y ∷ xs)) h w =
     All-cons (λ z. z < n) x (y ∷ xs) (rw w.0 h) (inside r n stays y b (y ∷ xs) (stays x y w.1) w.2)
 
-module _ (d : Digraph) (s t : ℕ) (f : ℕ → ℕ → Bool) (v : ℕ) (small : d.nodes ≤ 402) (sound : Sound d) (fl : Flow d s t f v) (hs : s < d.nodes)
+module _ (d : Digraph) (s t : ℕ) (f : ℕ → ℕ → Bool) (v : ℕ) (small : d.nodes ≤ node_limit) (sound : Sound d) (fl : Flow d s t f v) (hs : s < d.nodes)
     (before : List ℕ) (trail : Trail (residual d f) s t before) where
   -- The nodes of a trail are among the nodes.
-  trail_nodes : All (λ x. x < 402) trail.nodes
+  trail_nodes : All (λ x. x < node_limit) trail.nodes
   trail_nodes k z l =
       omega (arith, small, inside (residual d f) d.nodes (λ p q e. (residual_ranged d f sound fl.along p q e).1) s t trail.nodes hs trail.route.walk k z l)
 
   -- What is read back is the trail.
-  read : trail.nodes ≡ route_back before s t 402
-  read = trail_is (residual d f) s t before 402 trail trail_nodes
+  read : trail.nodes ≡ route_back before s t node_limit
+  read = trail_is (residual d f) s t before node_limit trail trail_nodes
 
   -- Nodes are read back.
-  pub read_nodes : All (λ x. x < 402) (route_back before s t 402)
-  read_nodes = subst (λ (xs : List ℕ). All (λ x. x < 402) xs) read trail_nodes
+  pub read_nodes : All (λ x. x < node_limit) (route_back before s t node_limit)
+  read_nodes = subst (λ (xs : List ℕ). All (λ x. x < node_limit) xs) read trail_nodes
 
   -- Pushing along them adds one.
-  pub read_adds : (s ≡ t → ⊥) → Flow d s t (pushed f (route_back before s t 402)) (v + 1)
+  pub read_adds : (s ≡ t → ⊥) → Flow d s t (pushed f (route_back before s t node_limit)) (v + 1)
   read_adds st =
       subst (λ (xs : List ℕ). Flow d s t (pushed f xs) (v + 1)) read
       (push_adds_one_lem d s t f v trail.nodes sound fl hs st trail.route)

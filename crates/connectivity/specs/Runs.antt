@@ -1,9 +1,9 @@
 -- What the lent memory holds while a run searches, and once it is finished.
 --
---   Held      a flow of the run's value
---   Largest   a flow that no residual path leads on from
---   PushedOn what a push leaves: one unit more, or the finished run
---   EndedAt  a push that gives the finished run has come to a value
+--   Held       a flow of the run's value
+--   Largest    a flow that no residual path leads on from
+--   PushedOn   what a push leaves: one unit more, or the finished run
+--   EndedAt    a push that gives the finished run has come to a value
 use Rattle.std.specs.Prelude.{◌≡◌, ℕ, ◌+◌, false}
 use Rattle.flows.specs.Flow.{Digraph, Flow, residual_side}
 use Rattle.rows.specs.Flow.{carried}

@@ -99,7 +99,7 @@ pub fn vertex_cut_between<M: Map>(
 ) -> Result<u16, Refusal>
     ensures reply { result ≡ vertex_reply (sizes_of work.entry.words.now work.entry.numbers.now work.entry.nodes.now work.entry.steps.now cut.old) (M.Map.graph split.old.map) a b }
     ensures cut { cut.new ≡ cut_in result (nearest_vertex_cut (M.Map.graph split.old.map) a b) cut.old }
-    ensures same { split.new ≡ (if is_ok result then (record { map = split.old.map; a = a; b = b }) else split.old) }
+    ensures ends { split.new ≡ (if is_ok result then (record { map = split.old.map; a = a; b = b }) else split.old) }
     ensures unchanged { is_ok result ≡ false → (work.exit.0.now ≡ work.entry.words.now) × (work.exit.1.0.now ≡ work.entry.numbers.now) × (work.exit.1.1.0.now ≡ work.entry.nodes.now) × (work.exit.1.1.1.0.now ≡ work.entry.steps.now) }
 {
     let sizes = work.sizes(cut.len());

@@ -4,7 +4,7 @@
 // run is to its plan (`asked`) and to its flow (`Held`, `Largest`) is asked at each call too, and can't
 // be a fact of its type. Flow and scratch memory go side by side, since a finished run takes the flow
 // for reading only.
-ghost use Rattle.std.specs.Prelude.{◌≡◌, ℕ, ◌+◌, ◌<◌, ◌≤◌, true, false, length};
+ghost use Rattle.std.specs.Prelude.{◌≡◌, ℕ, ◌+◌, ◌^◌, ◌<◌, ◌≤◌, true, false, length};
 ghost use Rattle.flows.specs.Flow.{Digraph, Flow, residual, residual_side};
 ghost use Rattle.augment.specs.Trails.{Trail};
 ghost use Rattle.rows.specs.Flow.{carried};
@@ -27,18 +27,11 @@ pub(crate) struct RunCount {
 }
 
 impl RunCount {
-    // No run is begun yet. No derived `Default`, whose contract would not say so; and so of every `none`.
+    // No run is begun yet. No derived `Default`, whose contract would not say so.
     pub(crate) fn none() -> RunCount
         ensures { result ≡ record { begun = 0 } }
     {
         RunCount { begun: 0 }
-    }
-
-    // How many runs were begun.
-    pub(crate) fn begun(&self) -> u32
-        ensures { result ≡ self.now.begun }
-    {
-        self.begun
     }
 }
 
@@ -62,7 +55,7 @@ pub(crate) type Pushed = ControlFlow<Finished, Searching>;
 impl Searching {
     // Begins a run: the memory holds no flow, and the count is one higher.
     pub(crate) fn begin(count: &mut RunCount, flow: &mut Arcs<'_>, from: u16, to: u16) -> Searching
-        requires { count.old.begun + 1 < 4294967296 }
+        requires { count.old.begun + 1 < 2 ^ 32 }
         ensures counted { count.new.begun ≡ count.old.begun + 1 }
         ensures run { result ≡ record { from = from; to = to; value = 0 } }
         ensures flow { (d : Digraph) → Flow d from to (carried flow.new) 0 }
@@ -171,14 +164,14 @@ impl Finished {
         ensures same { plan.new ≡ plan.old }
         ensures side { (q : ℕ) → marked marks.new q ≡ residual_side (P.Plan.digraph plan.old) (carried flow.now) self.now.from q }
     {
-        let from = self.from;
+        let near_end = self.from;
         search(
             plan,
             flow,
             marks,
             &mut scratch.notes,
             &mut scratch.nodes,
-            from,
+            near_end,
             None,
         );
     }
@@ -230,7 +223,7 @@ pub(crate) fn complete<P: CutPlan>(
     from: u16,
     to: u16,
 ) -> Finished
-    requires count { count.old.begun + 1 < 4294967296 }
+    requires count { count.old.begun + 1 < 2 ^ 32 }
     requires asked { P.CutPlan.asked plan.old from to }
     ensures counted { count.new.begun ≡ count.old.begun + 1 }
     ensures same { plan.new ≡ plan.old }

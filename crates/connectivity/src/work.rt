@@ -1,6 +1,7 @@
 // The work memory of a question: lent by the caller, of fixed sizes whatever the map. Its
 // content after an accepted question is free.
 ghost use Rattle.std.specs.Prelude.{◌≡◌, ◌≤◌, length};
+ghost use Rattle.graph.specs.Graph.{node_limit};
 ghost use Rattle.connectivity.specs.Work.{short};
 
 use augment::Notes;
@@ -56,7 +57,8 @@ impl<'m, 'n, 's> Scratch<'m, 'n, 's> {
         nodes: &'n mut [u16],
         steps: &'s mut [Step],
     ) -> Scratch<'m, 'n, 's>
-        requires { (402 ≤ length numbers.old) × (402 ≤ length nodes.old) × (402 ≤ length steps.old) }
+        requires { (node_limit ≤ length numbers.old) × (node_limit ≤ length nodes.old) × (node_limit ≤ length steps.old) }
+        ensures { result.notes.before.now ≡ numbers.old }
     {
         Scratch {
             notes: Notes::over(numbers),

@@ -1,17 +1,22 @@
 -- Graphs: vertices are numbers, edges join two of them and have no direction.
 --
 --   order_limit      how many vertices a graph of ours may have at most
+--   node_limit       how many nodes a digraph made of one may have at most
 --   Graph, Simple    an order with a test of what is joined; the rules that it keeps
 --   count, first     how many numbers pass a test; the lowest that does
 --   degree, next     of a vertex: how many neighbours; the lowest neighbour from w up
 --   edges            how many edges
 --   empty, with_edge, without_edge
-use Rattle.std.specs.Prelude.{◌≡◌, ℕ, zero, suc, ◌+◌, ◌-◌, ◌<◌, ◌≤◌, Bool, true, false, cond, not, ◌&&◌, ◌||◌, Some, None, Option, ◌==◌}
+use Rattle.std.specs.Prelude.{◌≡◌, ℕ, zero, suc, ◌+◌, ◌-◌, ◌*◌, ◌<◌, ◌≤◌, Bool, true, false, cond, not, ◌&&◌, ◌||◌, Some, None, Option, ◌==◌}
 
 -- One vertex more than a make accepts, so that a layer may add one. Whatever is proved
 -- about memory is proved for this limit.
 abbrev pub order_limit : ℕ
 order_limit = 201
+
+-- Two nodes for each vertex.
+abbrev pub node_limit : ℕ
+node_limit = 2 * order_limit
 
 -- The vertices are the numbers below the order; `joined u v` says that an edge joins u and v.
 pub record Graph : Type 0 where

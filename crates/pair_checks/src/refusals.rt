@@ -3,6 +3,7 @@ use crate::asking::{NO_EDGE, NO_STEP, NO_VERTEX, edge, planned};
 use claims::check;
 use connectivity::{CELLS, NUMBERS, WORDS, Work};
 use grid::Grid;
+use list::List;
 use model::{Refusal, Vertex};
 use session::Planner;
 use std::test::Fail;
@@ -18,18 +19,14 @@ fn edge_refusal<S: Editable>(
     room: usize,
 ) -> Option<Refusal> {
     let mut buffer = [NO_EDGE; 2];
-    if room > 2 {
-        return None;
-    }
+    let cut = buffer.get_mut(..room)?;
     let work = Work {
         words,
         numbers: &mut [0; NUMBERS],
         nodes: &mut [0; CELLS],
         steps: &mut [NO_STEP; CELLS],
     };
-    planner
-        .edge_cut_between(a, b, work, &mut buffer[0..room])
-        .err()
+    planner.edge_cut_between(a, b, work, cut).err()
 }
 
 // What a vertex question is refused with.
@@ -59,5 +56,6 @@ fn refused<S: Editable>(memory: S::Memory) -> Result<(), Fail> {
 
 #[test]
 fn refused_pairs() -> Result<(), Fail> {
-    refused::<Grid>(&mut [0u64; 12])
+    refused::<Grid>(&mut [0u64; 12])?;
+    refused::<List>(&mut [0u16; 2])
 }

@@ -2,7 +2,7 @@
 --
 --   vertices_at, vertices_gathered   the vertices at which arcs leave a set
 --   row_at, row_gathered             the edges from a vertex up that cross a set
---   Past                             no neighbour is across the set, from one number up to another
+--   across                           whether an edge leads from p to q on the other side
 --   row_room, row_more, row_all      such a row written from one neighbour across to the next
 --   edges_gathered                   all the edges that cross it
 use Rattle.std.proofs.Common.{◌≡◌, ℕ, zero, suc, ◌+◌, ◌<◌, ◌≤◌, Bool, true, false, cond, not, ◌&&◌, ◌||◌, eqb, ltb, List, [], ◌∷◌, ◌++◌, map, length, Some, None, filter, Option, sym, refl, ap, ◌∙◌, arith}

@@ -1,20 +1,15 @@
 -- What a plan answers, and that the digraphs of a map are sound and small.
 --
---   node_limit                            how many nodes a plan may have at most
 --   next_arc                              the lowest node from w up to which an arc leads from p
 --   both_ways_sound, both_ways_small      of each edge as two arcs
 --   split_is_sound, split_small           of the split digraph of two ends
-use Rattle.std.specs.Prelude.{ℕ, ◌-◌, ◌*◌, ◌≤◌, Option}
+use Rattle.std.specs.Prelude.{ℕ, ◌-◌, ◌≤◌, Option}
 use Rattle.std.proofs.Common.{arith}
-use Rattle.graph.specs.Graph.{Graph, Simple, order_limit, first}
+use Rattle.graph.specs.Graph.{Graph, Simple, node_limit, first}
 use Rattle.flows.specs.Flow.{Digraph, Sound}
 use Rattle.cuts.specs.Pairs.{both_ways, split}
 use Rattle.cuts.proofs.EdgeNearest.{both_sound}
 use Rattle.cuts.proofs.VertexSplit.{split_sound}
-
--- Two nodes for each vertex.
-abbrev pub node_limit : ℕ
-node_limit = 2 * order_limit
 
 -- The lowest node from w up to which an arc leads from p, or none.
 abbrev pub next_arc : Digraph → ℕ → ℕ → Option ℕ

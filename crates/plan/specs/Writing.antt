@@ -4,7 +4,7 @@
 --   vertex_at                 what is written for a vertex
 --   apart                     whether q is on the other side of a set than p
 --   next_other                the lowest such number from w up
---   next_across               the lowest from w up to which an edge leads from p
+--   next_across               the lowest such number to which an edge leads from p
 --   crossing_row              the edges from a vertex up that have one end in a set
 use Rattle.std.specs.Prelude.{ℕ, ◌+◌, ◌-◌, Bool, cond, not, ◌&&◌, ◌||◌, List, ◌++◌, length, take, drop, filter, Option, ◌==◌}
 use Rattle.std.specs.Bool.{then_some}
@@ -32,6 +32,6 @@ next_other u p w n = first (apart u p) w (n - w)
 abbrev pub next_across : Graph → (ℕ → Bool) → ℕ → ℕ → Option ℕ
 next_across g u p w = first (λ q. g.joined p q && apart u p q) w (g.order - w)
 
--- The edges from p to each higher neighbour, as far as the set u has exactly one end.
+-- The edges from p to higher neighbours that have exactly one end in the set u.
 abbrev pub crossing_row : Graph → (ℕ → Bool) → ℕ → List Edge
 crossing_row g u p = filter (λ e. (u e.low && not (u e.high)) || (u e.high && not (u e.low))) (edges_up g p)

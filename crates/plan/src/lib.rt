@@ -6,7 +6,8 @@
 ghost use Rattle.std.specs.Prelude.{◌≡◌, ℕ, ◌<◌, ◌≤◌, Bool, false, List, length, ◌≢◌};
 ghost use Rattle.flows.specs.Flow.{Digraph, Sound, Flow, residual_side};
 ghost use Rattle.rows.specs.Marks.{marked};
-ghost use Rattle.plan.specs.Plans.{node_limit, next_arc};
+ghost use Rattle.graph.specs.Graph.{node_limit};
+ghost use Rattle.plan.specs.Plans.{next_arc};
 ghost use Rattle.plan.specs.Buffers.{in_front};
 
 mod buffer;

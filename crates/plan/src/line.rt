@@ -61,7 +61,7 @@ impl<M: Map> Line<M> {
     // The lowest neighbour of u from w up whose mark differs from that of u. Where a neighbour's does
     // not, all up to the next mark that differs are leapt over. The order n is passed here and below,
     // so that it is asked for once a cut.
-    fn next_across(&mut self, n: u16, marks: &Marks, u: Vertex, w: Vertex) -> Option<Vertex>
+    fn next_across(&mut self, marks: &Marks, u: Vertex, w: Vertex, n: u16) -> Option<Vertex>
         requires { n ≡ (M.Map.graph self.old.map).order }
         ensures value { result ≡ next_across (M.Map.graph self.old.map) (marked marks.now) u w }
         ensures same { self.new ≡ self.old }
@@ -78,7 +78,7 @@ impl<M: Map> Line<M> {
 
     // Writes the edges from u up that have one end marked, behind those that are written. The loop
     // leaps from one such edge to the next, where a `for` would ask for every vertex.
-    fn write_row(&mut self, n: u16, marks: &Marks, u: Vertex, cut: &mut Filling<'_, Edge>)
+    fn write_row(&mut self, marks: &Marks, u: Vertex, n: u16, cut: &mut Filling<'_, Edge>)
         requires order { n ≡ (M.Map.graph self.old.map).order }
         requires within { u < n }
         requires room { cut.old.len + length (crossing_row (M.Map.graph self.old.map) (marked marks.now) u) ≤ length cut.old.slots.now }
@@ -88,7 +88,7 @@ impl<M: Map> Line<M> {
         ensures same { self.new ≡ self.old }
     {
         let mut w = u + 1;
-        while let Some(v) = self.next_across(n, marks, u, w) {
+        while let Some(v) = self.next_across(marks, u, w, n) {
             cut.push(edge_up(u, v));
             w = v + 1;
         }
@@ -105,7 +105,7 @@ impl<M: Map> Line<M> {
     {
         let n = self.map.order();
         for u in 0..n {
-            self.write_row(n, marks, u, cut);
+            self.write_row(marks, u, n, cut);
         }
     }
 }

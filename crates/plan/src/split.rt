@@ -63,7 +63,7 @@ impl<M> Split<M> {
 impl<M: Map> Split<M> {
     // The vertex v, if the arc through it leaves the marked nodes, or the arc from `from` to it. The
     // order n is passed, a plain number, so that it is asked for once a cut and not once a vertex.
-    fn vertex_at(&mut self, n: u16, from: Vertex, marks: &Marks, v: Vertex) -> Option<Vertex>
+    fn vertex_at(&mut self, from: Vertex, marks: &Marks, v: Vertex, n: u16) -> Option<Vertex>
         requires order { n ≡ (M.Map.graph self.old.map).order }
         requires within { (v < n) × (n ≤ order_limit) }
         ensures value { result ≡ vertex_at (M.Map.graph self.old.map) from (marked marks.now) v }
@@ -87,7 +87,7 @@ impl<M: Map> Split<M> {
     {
         let n = self.map.order();
         for v in 0..n {
-            cut.extend(self.vertex_at(n, from, marks, v));
+            cut.extend(self.vertex_at(from, marks, v, n));
         }
     }
 }

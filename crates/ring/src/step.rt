@@ -1,7 +1,7 @@
 // A step of a search.
 
-// A node, the node before it, and whether the step goes along an arc or back along the flow: a flag,
-// whose name says which of the two is meant.
+// A node, the node before it, and which way it was found. `forwards`: along an arc; else back along
+// the flow.
 #[derive(Clone, Copy)]
 pub struct Step {
     pub node: u16,

@@ -7,7 +7,7 @@ use Rattle.std.specs.Prelude.{ℕ, ◌*◌, Bool, not, ◌&&◌, ◌||◌, ◌==
 use Rattle.bits.specs.Bits.{has}
 use Rattle.rows.specs.declared.flow.Arcs.{Arcs}
 
--- No tail is 448 or more, and no head 512 or more; a bit past the words is clear.
+-- No tail is 448 or more, and no head 512 or more.
 unfoldable pub carried : Arcs → ℕ → ℕ → Bool
 carried a q p = (nat_lt q 448 && nat_lt p 512) && has a.words.now (8 * p) q
 

@@ -2,5 +2,5 @@ pub mod Fresh
 pub mod Notes
 pub mod States
 pub mod Turns
-pub mod Lines
+pub mod Queues
 pub mod Finds

@@ -1,5 +1,6 @@
 // How a search finds its goal: at a node, or one step on from it.
 ghost use Rattle.std.specs.Prelude.{◌≡◌, ◌<◌, IfSome};
+ghost use Rattle.graph.specs.Graph.{node_limit};
 ghost use Rattle.rows.specs.Flow.{carried};
 ghost use Rattle.search.specs.Goals.{goal_from, goal_noted};
 ghost use Rattle.search.specs.Steps.{along};
@@ -18,8 +19,8 @@ fn leads_on<P: Plan>(plan: &mut P, flow: &Arcs<'_>, q: u16, t: u16) -> bool
     plan.leads(q, t) && has_room(flow, q, t)
 }
 
-// Whether the goal is found with q: q is the goal, or an arc with room leads from q to it, and is
-// then noted. So a search looks one step ahead of each node that it finds.
+// Whether q is the goal, or an arc with room leads on from q to it; in that case q is noted as the
+// node before the goal. So a search looks one step ahead of each node that it finds.
 pub(crate) fn finds_goal<P: Plan>(
     plan: &mut P,
     flow: &Arcs<'_>,
@@ -27,7 +28,7 @@ pub(crate) fn finds_goal<P: Plan>(
     goal: Option<u16>,
     q: u16,
 ) -> bool
-    requires { IfSome goal (λ t. t < 402) }
+    requires { IfSome goal (λ t. t < node_limit) }
     ensures value { result ≡ goal_from goal (along (P.Plan.digraph plan.old) (carried flow.now) q) q }
     ensures notes { notes.new.before.now ≡ goal_noted goal (along (P.Plan.digraph plan.old) (carried flow.now) q) q notes.old.before.now }
     ensures same { plan.new ≡ plan.old }

@@ -1,7 +1,7 @@
 // The one search: breadth-first over what a flow leaves of a plan. It seeks a path to a goal,
-// leaving off the moment the goal is known to be reached, or, without a goal, sweeps all that is.
-// Three questions stay apart: which arc comes next, whether its node is marked, and whether the
-// flow leaves room on it.
+// leaving off the moment the goal is known to be reached, or, without a goal, marks all that is
+// reached. Three questions stay apart: which arc comes next, whether its node is marked, and
+// whether the flow leaves room on it.
 #![tactic(auto)]
 
 ghost use Rattle.std.specs.Prelude.{◌≡◌, ℕ, ◌<◌, true, false, IfSome, MatchOption, ◌≢◌};
@@ -11,15 +11,15 @@ ghost use Rattle.rows.specs.Marks.{marked};
 ghost use Rattle.augment.specs.Trails.{Trail};
 
 mod goal;
-mod line;
+mod queue;
 mod slots;
 mod steps;
 mod waiting;
 
 use augment::Notes;
 use goal::finds_goal;
-use line::enter;
 use plan::Plan;
+use queue::enter;
 use ring::Ring;
 use rows::flow::Arcs;
 use rows::marks::Marks;
@@ -27,12 +27,9 @@ pub use slots::Slots;
 use steps::{next_along, next_back};
 pub use waiting::Waiting;
 
-// Marks what `from` reaches by residual steps: along an arc on which the flow leaves room, or
-// back along the flow. With a goal it leaves off as soon as a node is found that is the goal or has
-// it one step ahead, and the notes lead back.
-// The answer is a flag and no path, since the path stands in the lent notes.
-// The two inner loops stay two: each asks another question and is left by its own break. They leap
-// from node to node, which a `for` would not.
+// Marks what `from` reaches by residual steps: along an arc with room, or back along the flow. With
+// a goal, it leaves off at the first node that is the goal or has it one step ahead, and the notes
+// lead back. The path stands in the notes, so the answer is a flag.
 pub fn search<P: Plan, E: Waiting>(
     plan: &mut P,
     flow: &Arcs<'_>,
@@ -52,18 +49,20 @@ pub fn search<P: Plan, E: Waiting>(
 {
     let n = plan.node_count();
     marks.clear();
-    let mut line = Ring::new(slots.cells);
-    enter(marks, &mut line, from, from, true);
+    let mut queue = Ring::new(slots.cells);
+    enter(marks, &mut queue, from, from, true);
     if finds_goal(plan, flow, notes, goal, from) {
         return true;
     }
     let mut found = false;
-    'search: while let Some(first) = line.pop() {
+    'search: while let Some(first) = queue.pop() {
         let p = first.node();
+        // This loop and the next are two, since each asks another question. They leap from node to
+        // node, which a `for` would not. Their labels are their names in the proofs.
         let mut ahead = 0;
         'along: while let Some(q) = next_along(plan, flow, marks, p, ahead, n) {
             notes.note(q, p);
-            enter(marks, &mut line, q, p, true);
+            enter(marks, &mut queue, q, p, true);
             if finds_goal(plan, flow, notes, goal, q) {
                 found = true;
                 break 'search;
@@ -73,7 +72,7 @@ pub fn search<P: Plan, E: Waiting>(
         let mut behind = 0;
         'back: while let Some(q) = next_back(flow, marks, p, behind, n) {
             notes.note(q, p);
-            enter(marks, &mut line, q, p, false);
+            enter(marks, &mut queue, q, p, false);
             if finds_goal(plan, flow, notes, goal, q) {
                 found = true;
                 break 'search;

@@ -1,10 +1,10 @@
-// What waits in the line of a search. To sweep what is reached, a node number is enough; to
+// What waits in the queue of a search. To sweep what is reached, a node number is enough; to
 // seek a path, a step is, which knows how it was found too.
 ghost use Rattle.std.specs.Prelude.{◌≡◌, ℕ};
 
 use ring::Step;
 
-// An item of the line: it has a node, and may keep the node before it and which way it was
+// An item of the queue: it has a node, and may keep the node before it and which way it was
 // found.
 pub trait Waiting: Copy + Drop {
     // The node that waits.
@@ -25,7 +25,9 @@ impl Waiting for u16 {
     ghost node = { λ q. q };
 
     // The node itself.
-    fn made(q: u16, _p: u16, _forwards: bool) -> u16 {
+    fn made(q: u16, _p: u16, _forwards: bool) -> u16
+        ensures { result ≡ q }
+    {
         q
     }
 
@@ -40,7 +42,9 @@ impl Waiting for Step {
     ghost node = { λ step. step.node };
 
     // The step from p to q.
-    fn made(q: u16, p: u16, forwards: bool) -> Step {
+    fn made(q: u16, p: u16, forwards: bool) -> Step
+        ensures { result ≡ record { node = q; before = p; forwards = forwards } }
+    {
         Step {
             node: q,
             before: p,

@@ -3,14 +3,14 @@
 #![tactic(auto)]
 
 ghost use Rattle.std.specs.Prelude.{◌≡◌, false, List, [], ◌∷◌, ◌++◌, is_ok, if◌then◌else◌, Ok, Err, MatchResult};
-ghost use Rattle.model.specs.Model.{Lent, unmade, made, blank, in_force};
+ghost use Rattle.model.specs.Model.{Lent, unmade, made, blank};
 ghost use Rattle.model.specs.Table.{reply, bad_order};
 ghost use Rattle.model.specs.Law.{Right, after, Event, event, Sound};
 ghost use Rattle.model.specs.declared.call.Call.TheVariants.{Make};
 ghost use Rattle.model.specs.declared.refusal.Refusal.TheVariants.{BadOrder, OutOfTurn};
 ghost use Rattle.strike.specs.Kept.{noted};
 ghost use Rattle.strike.specs.Struck.{without_simple};
-ghost use Rattle.session.specs.Kept.{model_of};
+ghost use Rattle.session.specs.Kept.{model_of, graph_of};
 
 mod pairs;
 
@@ -30,7 +30,7 @@ pub struct Planner<S> {
 // As a map, a planner is the graph in force. The questions are passed on one by one: no form of
 // the language passes a trait on to a field.
 impl<S: Editable> Map for Planner<S> {
-    ghost graph = { λ p. in_force (model_of S.Map.graph S.Editable.most p) };
+    ghost graph = { graph_of S.Map.graph S.Editable.most };
 
     ghost simple = { λ p. without_simple (S.Map.graph p.pile.map.map.store) (noted p.pile.map.map) (S.Map.simple p.pile.map.map.store) };
 
@@ -62,8 +62,8 @@ impl<S: Editable> Planner<S> {
         }
     }
 
-    // A planner of a map of n vertices with no edge, or why there is none. The memory of a
-    // refused make is as it was.
+    // A planner of a map of n vertices with no edge, or why there is none. A refused make only looks at
+    // the memory, which `room` takes by `&`.
     pub fn open(n: u16, memory: S::Memory) -> Result<Planner<S>, Refusal>
         ensures { MatchResult result (λ p. (reply (S.Editable.lent memory) unmade (Make n) ≡ Ok tt) × (model_of S.Map.graph S.Editable.most p ≡ blank n ((S.Editable.lent memory).capacity n))) (λ e. reply (S.Editable.lent memory) unmade (Make n) ≡ Err e) }
     {

@@ -8,7 +8,7 @@ use Rattle.search.specs.Steps.{along, back, fresh}
 use Rattle.search.proofs.States.{State, Nobody, unmarked, begun, ended, missed}
 use Rattle.search.proofs.Finds.{goal_node, goal_apart, goal_fits, passed_by, step_on}
 use Rattle.search.proofs.Turns.{Turn, back_all, along_step, found, has_room, by_along, by_back}
-use Rattle.search.proofs.Lines.{each, first_marks, along_found, found_at, none_at, value_in, found_in, taken_first, arcs_done}
+use Rattle.search.proofs.Queues.{each, first_marks, along_found, found_at, none_at, value_in, found_in, taken_first, arcs_done}
 use Rattle.search.proofs.search.Given as given
 use Rattle.search.proofs.search.Goals as goal
 use Rattle.search.proofs.search.Goals.{After-finds_goal, After-next_along, In-Some-next_along, After-finds_goal-in-Some-next_along, After-next_back, In-Some-next_back, After-finds_goal-in-Some-next_back}
@@ -16,9 +16,9 @@ use Rattle.search.proofs.search.Goals.{After-finds_goal, After-next_along, In-So
 -- At first the start alone is marked, and waits.
 state_first : (g : given.Over) (c : After-finds_goal g) (before : List ℕ)
     → State (g.P.Plan.digraph c.args.plan.now) (carried c.args.flow.now) c.args.from c.args.goal Nobody
-    (map g.E.Waiting.node c.enter.new.line.items) (marked c.enter.new.marks) before
+    (map g.E.Waiting.node c.enter.new.queue.items) (marked c.enter.new.marks) before
 state_first g c before =
-    let alone = ap (λ (z : List g.row.E.Denot). map g.E.Waiting.node z ++ (c.args.from ∷ [])) c.new-line.ensures.items in
+    let alone = ap (λ (z : List g.row.E.Denot). map g.E.Waiting.node z ++ (c.args.from ∷ [])) c.new-queue.ensures.items in
     let marks = first_marks c.args.from c.clear.ensures c.enter.ensures.marks in
     begun c.requires.start marks c.requires.goal (c.enter.ensures.nodes ∙ alone)
 
@@ -33,7 +33,7 @@ kept_ahead g c = c.search.invariant.0 ∙ c.finds_goal.ensures.same ∙ c.node_c
 -- While arcs are looked at, a node is, with its arcs up to the next.
 turn_ahead : (g : given.Over) (c : After-next_along g)
     → Turn (g.P.Plan.digraph c.search.plan) (carried c.args.flow.now) c.args.from c.args.goal c.node-p.result c.along.ahead 0
-    (map g.E.Waiting.node c.along.line.items) (marked c.along.marks) c.along.notes.before.now
+    (map g.E.Waiting.node c.along.queue.items) (marked c.along.marks) c.along.notes.before.now
     (length (map g.E.Waiting.node c.pop.new.self.items) + unmarked (marked c.search.marks) c.node_count-n.result)
 turn_ahead g c =
     c.along.invariant.4
@@ -59,8 +59,8 @@ nodes_behind g c = rw (c.in_default-next_along.ensures.same, c.along.invariant.0
 turn_behind : (g : given.Over) (c : After-next_back g)
     → Turn (g.P.Plan.digraph c.next_along.new.plan) (carried c.args.flow.now) c.args.from c.args.goal c.node-p.result
     c.node_count-n.result c.back.behind
-    (map g.E.Waiting.node c.back.line.items) (marked c.back.marks) c.back.notes.before.now
-    (length (map g.E.Waiting.node c.along.line.items) + unmarked (marked c.along.marks) c.node_count-n.result)
+    (map g.E.Waiting.node c.back.queue.items) (marked c.back.marks) c.back.notes.before.now
+    (length (map g.E.Waiting.node c.along.queue.items) + unmarked (marked c.along.marks) c.node_count-n.result)
 turn_behind g c =
     c.back.invariant.3
     (arcs_done g.P.Plan.digraph c.along.invariant.0 c.in_default-next_along.ensures.same c.search.invariant.2 c.in_default-next_along.ensures.value
@@ -85,7 +85,7 @@ search-init g c =
       refl,
       refl,
       rw same c.node_count-n.ensures.value,
-      omega (arith, c.enter.ensures.room, c.new-line.ensures.room, c.args.slots.now.fits),
+      omega (arith, c.enter.ensures.room, c.new-queue.ensures.room, c.args.slots.now.fits),
       rw same (state_first g at.After-finds_goal c.finds_goal.new.notes.before.now),
       refl,
     )
@@ -100,7 +100,7 @@ enter-requires-in-Some-next_along g c =
     let small = g.P.Plan.small c.search.plan in
     let roomy = has_room (turn_ahead g at.After-next_along) (wide_ahead g at.In-Some-next_along) refl _ o (along_step _ _ _ _) in (
       omega (arith, o.below, small),
-      omega (arith, roomy, small, c.along.invariant.3, length-map c.along.line.items g.E.Waiting.node),
+      omega (arith, roomy, small, c.along.invariant.3, length-map c.along.queue.items g.E.Waiting.node),
     )
 
 pub overflow_add-ahead : goal.overflow_add-ahead
@@ -137,7 +137,7 @@ enter-requires-in-Some-next_back g c =
     let small = g.P.Plan.small c.next_along.new.plan in
     let roomy = has_room (turn_behind g at.After-next_back) (wide_behind g at.In-Some-next_back) refl _ o (or_left _ _) in (
       omega (arith, o.below, small),
-      omega (arith, roomy, small, c.back.invariant.2, length-map c.back.line.items g.E.Waiting.node),
+      omega (arith, roomy, small, c.back.invariant.2, length-map c.back.queue.items g.E.Waiting.node),
     )
 
 pub overflow_add-behind : goal.overflow_add-behind

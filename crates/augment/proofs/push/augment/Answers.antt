@@ -1,4 +1,5 @@
 use Rattle.std.proofs.Common.{◌<◌, ℕ, take, sym, ap, ◌∙◌, arith}
+use Rattle.graph.specs.Graph.{node_limit}
 use Rattle.std.proofs.lemmas.List.Elements.{All-drop}
 use Rattle.std.specs.Slice.ArrayWindows.{array_windows_parts}
 use Rattle.std.specs.Slice.Iter.{windows_rest}
@@ -12,7 +13,7 @@ step-requires c =
     let rest = windows_rest (array_windows_parts c.loop-p.p-iterator) in
     let turn = c.in-Some.ensures.steps.1 in
     let size = c.loop-p.invariant.0 in
-    first_two (λ x. x < 402) rest c.in-Some.field-0.now (omega (arith, turn.0, size)) (turn.1 ∙ ap (λ (n : ℕ). take n rest) size) c.loop-p.invariant.2
+    first_two (λ x. x < node_limit) rest c.in-Some.field-0.now (omega (arith, turn.0, size)) (turn.1 ∙ ap (λ (n : ℕ). take n rest) size) c.loop-p.invariant.2
 
 -- The step goes before what is left.
 pub loop-p-preserved : goal.loop-p-preserved
@@ -23,7 +24,7 @@ loop-p-preserved c =
     let two = turn.1 ∙ ap (λ (n : ℕ). take n rest) size in (
       c.in-Some.ensures.steps.0 ∙ size,
       rw (turn.2, c.step.ensures.arcs) (pushed_step (carried c.loop-p.flow) rest c.in-Some.field-0.now (omega (arith, turn.0, size)) two ∙ c.loop-p.invariant.1),
-      rw turn.2 (All-drop (λ x. x < 402) 1 rest c.loop-p.invariant.2),
+      rw turn.2 (All-drop (λ x. x < node_limit) 1 rest c.loop-p.invariant.2),
       c.step.ensures.same_reference ∙ c.loop-p.invariant.3,
     )
 

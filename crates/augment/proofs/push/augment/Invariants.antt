@@ -1,5 +1,6 @@
 -- The words are the same as at first; what is pushed so far, and along the nodes that are left, is what is pushed along the whole list.
 use Rattle.std.proofs.Common.{◌≡◌, ◌<◌, All}
+use Rattle.graph.specs.Graph.{node_limit}
 use Rattle.std.specs.Slice.ArrayWindows.{array_windows_parts}
 use Rattle.std.specs.Slice.Iter.{windows_rest, windows_size}
 use Rattle.flows.specs.Flow.{pushed}
@@ -12,5 +13,5 @@ invariant-loop-p l =
     let rest = windows_rest windows in
     (windows_size windows ≡ 2)
     × (pushed (carried l.flow) rest ≡ pushed (carried l.initial.flow) l.path)
-    × All (λ x. x < 402) rest
+    × All (λ x. x < node_limit) rest
     × (l.flow.words.ghost_name ≡ l.initial.flow.words.ghost_name)

@@ -1,11 +1,11 @@
--- The queue of nodes as the items of a line, and what the answers of the code say of it.
+-- The nodes that wait as the items of a queue, and what the answers of the code say of them.
 --
 --   each                               what two equal tests say of each number
 --   first_marks                        the marks after the first node is marked
 --   found_at, none_at                  what was found below a bound that is the same as another
 --   along_found, along_none            what the next arc with room is, in such a plan
 --   value_in, found_in                 how the goal is found, in such a plan
---   taken_first                        the first of a line is taken to be looked at
+--   taken_first                        the first of a queue is taken to be looked at
 --   arcs_done                          its arcs have been looked at
 use Rattle.std.proofs.Common.{◌≡◌, ℕ, ◌+◌, ◌-◌, ◌<◌, ◌≤◌, Bool, true, false, ◌||◌, eqb, List, ◌∷◌, map, length, Some, None, Option, sym, ap, ◌∙◌, subst, MatchOption}
 use Rattle.graph.specs.Graph.{first}
@@ -66,7 +66,7 @@ module _ {X : Type 0} (D : X → Digraph) {a b : X} (same : a ≡ b) where
 
 -- A node p is looked at, in a plan of n nodes that is as it was.
 module _ {X : Type 0} (D : X → Digraph) {f : ℕ → ℕ → Bool} {s : ℕ} {goal : Option ℕ} {n p : ℕ} {m : ℕ → Bool} {before : List ℕ} where
-  -- It has been taken from the line.
+  -- It has been taken from the queue.
   pub taken_first : {E : Type 0} (node : E → ℕ) {a b : X} {xs ys : List E} {x : E} → b ≡ a → n ≡ (D b).nodes → p ≡ node x → xs ≡ x ∷ ys
       → State (D a) f s goal Nobody (map node xs) m before
       → Turn (D b) f s goal p 0 0 (map node ys) m before (length (map node ys) + unmarked m n)
