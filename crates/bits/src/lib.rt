@@ -6,7 +6,7 @@ ghost use Rattle.std.specs.Prelude.{◌≡◌, ℕ, ◌-◌, ◌*◌, ◌/◌, �
 ghost use Rattle.graph.specs.Graph.{first};
 ghost use Rattle.bits.specs.Bits.{bit, has, Written};
 
-// How many bits a word has. Bounds by it are asked of plain numbers, and indices widen by `as`.
+// How many bits a word has.
 const WORD_BITS: u16 = 64;
 
 // Whether bit k of a word is set.

@@ -3,7 +3,7 @@ ghost use Rattle.std.specs.Prelude.{◌≡◌, ℕ, ◌-◌, ◌<◌, ◌≤◌,
 ghost use Rattle.graph.specs.Graph.{first};
 ghost use Rattle.rows.specs.Marks.{marked};
 
-// How many numbers the set can hold. Bounds by it are asked where a number is plain.
+// How many numbers the set can hold. A search has at most 402 nodes.
 const MOST: u16 = 448;
 
 // The set owns its words: nothing else is said in them.
