@@ -1,5 +1,5 @@
-// Tests of what a planner says of pairs of vertices: values and nearest cuts of the check maps,
-// and refusals, over each store.
+// Tests of what a planner says of pairs of vertices: values and nearest cuts of the check maps and
+// of random small ones, and refusals, over each store.
 #![tactic(auto)]
 
 #[cfg(test)]
@@ -7,4 +7,8 @@ mod asking;
 #[cfg(test)]
 mod maps;
 #[cfg(test)]
+mod random;
+#[cfg(test)]
 mod refusals;
+#[cfg(test)]
+mod simple;
