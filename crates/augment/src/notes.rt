@@ -18,7 +18,7 @@ pub struct Notes<'a> {
 }
 
 impl<'a> Notes<'a> {
-    // Notes that stand in the lent numbers already.
+    // The lent numbers as notes, with whatever stands in them.
     pub fn over(before: &'a mut [u16]) -> Notes<'a>
         requires { node_limit ≤ length before.old }
         ensures notes { result.before.now ≡ before.old }

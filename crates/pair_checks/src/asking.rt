@@ -7,7 +7,7 @@ use model::{Call, Vertex};
 use ring::Step;
 use session::{Planner, perform};
 use std::test::Fail;
-use store::{Editable, Map};
+use store::Editable;
 
 // What cells and buffers are filled with before a question.
 pub(crate) const NO_STEP: Step = Step {

@@ -5,7 +5,7 @@ use list::List;
 use model::Call;
 use session::perform;
 use std::test::Fail;
-use store::{Editable, Map};
+use store::Editable;
 
 // Two vertices, unjoined.
 fn two_apart<S: Editable>(memory: S::Memory) -> Result<(), Fail> {

@@ -7,7 +7,7 @@ use list::List;
 use model::{Refusal, Vertex};
 use session::Planner;
 use std::test::Fail;
-use store::{Editable, Map};
+use store::Editable;
 
 // What an edge question is refused with, lent so many words and so much room for a cut. Each kind of
 // question has a buffer of its own kind, so this and the next are two.

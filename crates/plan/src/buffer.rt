@@ -3,8 +3,9 @@ ghost use Rattle.std.specs.Prelude.{◌≡◌, ◌+◌, ◌<◌, ◌≤◌, [], 
 ghost use Rattle.std.specs.Option.{option_to_list};
 ghost use Rattle.plan.specs.Writing.{placed};
 
-// A buffer, of which the first slots are written; the others have what stood in them before. Who
-// writes on says that it lies over the same slots (`same_reference`), since no type can.
+// A buffer, of which the first slots are written; the others have what stood in them before. Each
+// function that writes has to say that it still lies over the same slots (`same_reference`), since no
+// type can.
 #[derive(Drop)]
 pub(crate) struct Filling<'a, T> {
     slots: &'a mut [T],

@@ -19,8 +19,8 @@ fn leads_on<P: Plan>(plan: &mut P, flow: &Arcs<'_>, q: u16, t: u16) -> bool
     plan.leads(q, t) && has_room(flow, q, t)
 }
 
-// Whether q is the goal, or an arc with room leads on from q to it; in that case q is noted as the
-// node before the goal. So a search looks one step ahead of each node that it finds.
+// Whether q is the goal, or an arc with room leads on from q to it; in the second case q is noted as
+// the node before the goal. So a search looks one step ahead of each node that it finds.
 pub(crate) fn finds_goal<P: Plan>(
     plan: &mut P,
     flow: &Arcs<'_>,

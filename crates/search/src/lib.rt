@@ -28,8 +28,8 @@ use steps::{next_along, next_back};
 pub use waiting::Waiting;
 
 // Marks what `from` reaches by residual steps: along an arc with room, or back along the flow. With
-// a goal, it leaves off at the first node that is the goal or has it one step ahead, and the notes
-// lead back. The path stands in the notes, so the answer is a flag.
+// a goal, it leaves off at the first node that is the goal, or from which an arc with room leads to
+// it, and the notes lead back. The path stands in the notes, so the answer is a flag.
 pub fn search<P: Plan, E: Waiting>(
     plan: &mut P,
     flow: &Arcs<'_>,

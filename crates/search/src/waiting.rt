@@ -1,5 +1,5 @@
-// What waits in the queue of a search. To sweep what is reached, a node number is enough; to
-// seek a path, a step is, which knows how it was found too.
+// What waits in the queue of a search: node numbers where what is reached is swept, steps where a
+// path is sought. A search reads the node of either and no more; the way back stands in the notes.
 ghost use Rattle.std.specs.Prelude.{◌≡◌, ℕ};
 
 use ring::Step;

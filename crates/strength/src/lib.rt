@@ -80,7 +80,8 @@ pub fn check_maps_hold()
 {}
 
 // Three computations that look right and are wrong: stopping after the runs from the sparsest
-// vertex, and ending the rounds among its neighbours one too early.
+// vertex, ending each round among its neighbours one run too early, and ending the rounds one too
+// early.
 pub fn variants_refuted()
     ensures { VariantsRefuted }
 {}
