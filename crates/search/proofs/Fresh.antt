@@ -1,8 +1,10 @@
 -- Numbers that pass a test and are not marked, and how a scan for the lowest of them goes on.
-use Rattle.std.proofs.Common.{◌≡◌, ℕ, ◌+◌, ◌-◌, ◌<◌, ◌≤◌, Bool, true, false, not, Some, None, sym, ap, ◌∙◌, ⊎_elim, arith}
-use Rattle.std.proofs.lemmas.Bool.{cases_lt, and_parts, and_from, and_left, and_right, not-true, not-false, not_from_true, not_from_false}
+use Rattle.std.proofs.Common.{◌≡◌, ℕ, ◌+◌, ◌-◌, ◌<◌, ◌≤◌, Bool, true, false, not, Some, None, sym, ap, ◌∙◌, arith}
+use Rattle.std.proofs.lemmas.Bool.{and_parts, and_from, and_left, and_right, not-true, not-false, not_from_true, not_from_false}
 use Rattle.graph.specs.Graph.{first}
-use Rattle.graph.proofs.Firsts.{Found, first_found, first_missing, first_some, first_all}
+use Rattle.graph.proofs.Firsts.{Found, first_some, first_all}
+use Rattle.graph.proofs.Leaps as Leaps
+use Rattle.graph.proofs.Leaps.{Scan}
 use Rattle.flows.specs.Flow.{Digraph}
 use Rattle.plan.specs.Plans.{next_arc}
 use Rattle.search.specs.Steps.{along, fresh}
@@ -33,63 +35,45 @@ module _ (m test : ℕ → Bool) where
   unfolding fresh
   fresh_done k h e = grind arith
 
--- A scan from w up has come to v, and nothing from w to v is fresh.
-pub record Scan (m test : ℕ → Bool) (w v : ℕ) : Type 0 where
-  pub from : w ≤ v
-  pub none : (k : ℕ) → w ≤ k → k < v → fresh m test k ≡ false
+-- A scan for fresh numbers has come to v, and asks for the numbers of a larger test.
+module _ (m test : ℕ → Bool) {base : ℕ → Bool} {w v : ℕ} (s : Scan (fresh m test) w v) (only : (k : ℕ) → base k ≡ false → test k ≡ false) where
+  -- What fails the larger test is not fresh.
+  wide : (k : ℕ) → base k ≡ false → fresh m test k ≡ false
+  wide k h = fresh_off m test k (only k h)
 
--- A scan that came to v, with nothing fresh from v to u, comes to u.
-scan_on : {m test : ℕ → Bool} {w v u : ℕ} → Scan m test w v → v ≤ u → ((k : ℕ) → v ≤ k → k < u → fresh m test k ≡ false) → Scan m test w u
-scan_on {v = v} s l high = record {
-  from = omega (arith, s.from);
-  none = λ k a b. ⊎_elim (λ h. s.none k a h) (λ h. high k h b) (cases_lt k v);
-}
-
--- A scan that came past n finds nothing below n.
-scan_none : {m test : ℕ → Bool} {w v : ℕ} (n : ℕ) → Scan m test w v → n ≤ v → None ≡ first (fresh m test) w (n - w)
-scan_none {m} {test} {w} n s l = first_missing (fresh m test) w n (λ k a b. s.none k a (omega arith))
-
--- A scan has come to v, and asks for the numbers of a larger test; r is what was answered on whether
--- the next of them is marked.
-module _ {base test m : ℕ → Bool} {w v : ℕ} (s : Scan m test w v) (only : (k : ℕ) → base k ≡ false → test k ≡ false) where
-  -- It comes to the next number of the larger test.
-  reach : {e q : ℕ} → Found base v e q → Scan m test w q
-  reach f = scan_on s f.from (λ k a b. fresh_off m test k (only k (f.none k a b)))
-
-  -- That number is the lowest, if it passes and is not marked.
+  -- The next number of the larger test is the lowest, if it passes and is not marked.
   pub hit : {e n q : ℕ} {r : Bool} → Found base v e q → q < n → r ≡ m q → r ≡ false → test q ≡ true → Some q ≡ first (fresh m test) w (n - w)
-  hit {n = n} {q = q} f l is h t = let r = reach f in first_found (fresh m test) w q n r.from l r.none (fresh_from m test q (sym is ∙ h) t)
+  hit {q = q} f l is h t = Leaps.hit s wide f l (fresh_from m test q (sym is ∙ h) t)
 
   -- Or else the scan goes on behind it.
-  pub on : {e q : ℕ} → Found base v e q → fresh m test q ≡ false → Scan m test w (q + 1)
-  on {q = q} f h = scan_on (reach f) (omega arith) (λ k a b. let e : q ≡ k = omega arith in rw e at h)
+  pub on : {e q : ℕ} → Found base v e q → fresh m test q ≡ false → Scan (fresh m test) w (q + 1)
+  on = Leaps.on s wide
 
   -- That number is out of range.
   pub past : {e n q : ℕ} → Found base v e q → n ≤ q → None ≡ first (fresh m test) w (n - w)
-  past {n = n} f l = scan_none n (reach f) l
+  past = Leaps.past s wide
 
   -- There is no such number.
   pub none : {e n : ℕ} → n ≤ e → ((k : ℕ) → v ≤ k → k < e → base k ≡ false) → None ≡ first (fresh m test) w (n - w)
-  none {n = n} l h =
-      first_missing (fresh m test) w n
-      (λ k a b. ⊎_elim (λ c. s.none k a c) (λ c. fresh_off m test k (only k (h k c (omega arith)))) (cases_lt k v))
+  none = Leaps.none s wide
 
-  -- That number is marked, and so are all from it up to u.
-  pub leap : (n : ℕ) {e q u : ℕ} {r : Bool} → Found base v e q → r ≡ m q → r ≡ true → Some u ≡ first (λ k. not (m k)) (q + 1) (n - (q + 1))
-      → Scan m test w u
-  leap n {q = q} {u = u} f is h a =
-      let g = first_some (λ k. not (m k)) (q + 1) n u (sym a) in
-      scan_on (on f (fresh_marked m test q (sym is ∙ h))) g.from (λ k a b. fresh_marked m test k (not-false (m k) (g.none k a b)))
+  -- That number is marked: the scan goes on behind it, and asks for what is not marked.
+  module _ (n : ℕ) {e q : ℕ} {r : Bool} (f : Found base v e q) (is : r ≡ m q) (h : r ≡ true) where
+    -- What is marked is not fresh.
+    free : (k : ℕ) → not (m k) ≡ false → fresh m test k ≡ false
+    free k z = fresh_marked m test k (not-false (m k) z)
 
-  -- That number is marked, and so are all above it.
-  pub leap_none : (n : ℕ) {e q : ℕ} {r : Bool} → Found base v e q → r ≡ m q → r ≡ true → None ≡ first (λ k. not (m k)) (q + 1) (n - (q + 1))
-      → None ≡ first (fresh m test) w (n - w)
-  leap_none n {q = q} f is h a =
-      let t = on f (fresh_marked m test q (sym is ∙ h)) in
-      first_missing (fresh m test) w n
-      (λ k b c. ⊎_elim (λ l. t.none k b l)
-      (λ l. fresh_marked m test k (not-false (m k) (first_all (λ k. not (m k)) (q + 1) n (sym a) k l c)))
-      (cases_lt k (q + 1)))
+    -- Behind it.
+    behind : Scan (fresh m test) w (q + 1)
+    behind = on f (fresh_marked m test q (sym is ∙ h))
+
+    -- All from it up to u are marked.
+    pub leap : {u : ℕ} → Some u ≡ first (λ k. not (m k)) (q + 1) (n - (q + 1)) → Scan (fresh m test) w u
+    leap {u} a = Leaps.reach behind free (first_some (λ k. not (m k)) (q + 1) n u (sym a))
+
+    -- All above it are marked.
+    pub leap_none : None ≡ first (λ k. not (m k)) (q + 1) (n - (q + 1)) → None ≡ first (fresh m test) w (n - w)
+    leap_none a = Leaps.none behind free (omega arith) (first_all (λ k. not (m k)) (q + 1) n (sym a))
 
 module _ (d : Digraph) (f : ℕ → ℕ → Bool) (p q : ℕ) where
   -- Where no arc leads, none with room does.

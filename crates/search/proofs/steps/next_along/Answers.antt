@@ -20,7 +20,7 @@ returns-in_err-v-clause-value g c =
     let only = along_only (g.P.Plan.digraph c.args.plan.now) (carried c.args.flow.now) c.args.p in
     let f = next g (goal.at.returns-in_err-v-clause-value g c).In-Some in
     c.from_residual.ensures
-    ∙ leap_none c.loop-q.invariant.1 only c.args.n f c.has.ensures c.if-has.true c.in_err-v.ensures
+    ∙ leap_none _ _ c.loop-q.invariant.1 only c.args.n f c.has.ensures c.if-has.true c.in_err-v.ensures
 
 pub loop-q-smaller-then-has : goal.loop-q-smaller-then-has
 loop-q-smaller-then-has g c =
@@ -32,14 +32,14 @@ pub loop-q-preserved-then-has : goal.loop-q-preserved-then-has
 loop-q-preserved-then-has g c =
     let only = along_only (g.P.Plan.digraph c.args.plan.now) (carried c.args.flow.now) c.args.p in
     let f = next g (goal.at.loop-q-preserved-then-has g c).In-Some in
-    (c.in-Some.ensures.same ∙ c.loop-q.invariant.0, leap c.loop-q.invariant.1 only c.args.n f c.has.ensures c.if-has.true c.in_ok-v.ensures)
+    (c.in-Some.ensures.same ∙ c.loop-q.invariant.0, leap _ _ c.loop-q.invariant.1 only c.args.n f c.has.ensures c.if-has.true c.in_ok-v.ensures)
 
 pub returns-then-has_room-clause-value : goal.returns-then-has_room-clause-value
 returns-then-has_room-clause-value g c =
     let d = g.P.Plan.digraph c.args.plan.now in
     let flow = carried c.args.flow.now in
     let f = next g (goal.at.returns-then-has_room-clause-value g c).In-Some in
-    hit c.loop-q.invariant.1 (along_only d flow c.args.p) f f.below c.has.ensures c.if-has.false
+    hit _ _ c.loop-q.invariant.1 (along_only d flow c.args.p) f f.below c.has.ensures c.if-has.false
     (along_from d flow c.args.p c.in-Some.q f.here c.has_room.ensures c.if-has_room.true)
 
 pub overflow_add-v : goal.overflow_add-v
@@ -56,7 +56,7 @@ loop-q-preserved g c =
     let flow = carried c.args.flow.now in
     let f = next g (goal.at.loop-q-preserved g c).In-Some in (
       c.in-Some.ensures.same ∙ c.loop-q.invariant.0,
-      on c.loop-q.invariant.1 (along_only d flow c.args.p) f
+      on _ _ c.loop-q.invariant.1 (along_only d flow c.args.p) f
           (fresh_off _ (along d flow c.args.p) c.in-Some.q (along_full d flow c.args.p c.in-Some.q c.has_room.ensures c.if-has_room.false)),
     )
 
@@ -64,4 +64,4 @@ pub returns-clause-value : goal.returns-clause-value
 returns-clause-value g c =
     let only = along_only (g.P.Plan.digraph c.args.plan.now) (carried c.args.flow.now) c.args.p in
     let all = arc_none g.P.Plan.digraph _ _ c.loop-q.invariant.0 c.requires.nodes c.in_default.ensures.value in
-    none c.loop-q.invariant.1 only (omega arith) all
+    none _ _ c.loop-q.invariant.1 only (omega arith) all

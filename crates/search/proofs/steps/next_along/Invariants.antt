@@ -2,14 +2,14 @@
 use Rattle.std.proofs.Common.{◌≡◌, ◌-◌}
 use Rattle.rows.specs.Flow.{carried}
 use Rattle.rows.specs.Marks.{marked}
-use Rattle.search.specs.Steps.{along}
-use Rattle.search.proofs.Fresh.{Scan}
+use Rattle.search.specs.Steps.{along, fresh}
+use Rattle.graph.proofs.Leaps.{Scan}
 use Rattle.search.proofs.steps.next_along.Given as goal
 
 abbrev pub invariant-loop-q : goal.invariant-loop-q
 invariant-loop-q g l =
     (l.plan ≡ l.initial.plan)
-    × Scan (marked l.marks) (along (g.P.Plan.digraph l.initial.plan) (carried l.flow) l.p) l.w l.v
+    × Scan (fresh (marked l.marks) (along (g.P.Plan.digraph l.initial.plan) (carried l.flow) l.p)) l.w l.v
 
 abbrev pub decreases-loop-q : goal.decreases-loop-q
 decreases-loop-q g l = l.n - l.v

@@ -2,12 +2,12 @@
 use Rattle.std.proofs.Common.{◌-◌}
 use Rattle.rows.specs.Flow.{carried}
 use Rattle.rows.specs.Marks.{marked}
-use Rattle.search.specs.Steps.{back}
-use Rattle.search.proofs.Fresh.{Scan}
+use Rattle.search.specs.Steps.{back, fresh}
+use Rattle.graph.proofs.Leaps.{Scan}
 use Rattle.search.proofs.steps.next_back.Given as goal
 
 abbrev pub invariant-loop-q : goal.invariant-loop-q
-invariant-loop-q l = Scan (marked l.marks) (back (carried l.flow) l.p) l.w l.v
+invariant-loop-q l = Scan (fresh (marked l.marks) (back (carried l.flow) l.p)) l.w l.v
 
 abbrev pub decreases-loop-q : goal.decreases-loop-q
 decreases-loop-q l = l.n - l.v
