@@ -4,3 +4,4 @@ pub mod Writes
 pub mod Parts
 pub mod Low
 pub mod Scans
+pub mod Joins

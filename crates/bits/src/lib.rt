@@ -2,7 +2,7 @@
 // map and the sets of a search are made of such words.
 #![tactic(auto)]
 
-ghost use Rattle.std.specs.Prelude.{◌≡◌, ℕ, ◌-◌, ◌*◌, ◌/◌, ◌<◌, not, length, drop, if◌then◌else◌, ◌==◌};
+ghost use Rattle.std.specs.Prelude.{◌≡◌, ℕ, ◌-◌, ◌*◌, ◌/◌, ◌<◌, not, ◌||◌, length, drop, if◌then◌else◌, ◌==◌};
 ghost use Rattle.graph.specs.Graph.{first};
 ghost use Rattle.bits.specs.Bits.{bit, has, Written};
 
@@ -65,6 +65,16 @@ pub fn set(words: &mut [u64], k: u16, on: bool)
 {
     let at = k as usize / 64;
     words[at] = word_with(words[at], k % WORD_BITS, on);
+}
+
+// Puts the numbers of another set in, which has as many words.
+pub fn join(words: &mut [u64], others: &[u64])
+    requires { length words.old ≡ length others.now }
+    ensures { (j : ℕ) → has words.new 0 j ≡ (has words.old 0 j || has others.now 0 j) }
+{
+    for i in 0..words.len() {
+        words[i] |= others[i];
+    }
 }
 
 // The lowest number from w up that is in the set, or that is not, among those that the words hold.

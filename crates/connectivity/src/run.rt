@@ -10,6 +10,7 @@ ghost use Rattle.augment.specs.Trails.{Trail};
 ghost use Rattle.rows.specs.Flow.{carried};
 ghost use Rattle.rows.specs.Marks.{marked};
 ghost use Rattle.plan.specs.Buffers.{in_front};
+ghost use Rattle.search.specs.Goals.{Far};
 ghost use Rattle.connectivity.specs.Runs.{Held, Largest, PushedOn, EndedAt};
 
 use crate::work::Scratch;
@@ -17,7 +18,7 @@ use augment::augment;
 use plan::CutPlan;
 use rows::flow::Arcs;
 use rows::marks::Marks;
-use search::search;
+use search::{closed_to, far_from, search};
 use std::ops::ControlFlow;
 
 // How many runs a call has begun. Only the beginning of a run raises it.
@@ -71,9 +72,11 @@ impl Searching {
         &self,
         plan: &mut P,
         flow: &Arcs<'_>,
+        far: &Marks,
         scratch: &mut Scratch<'_, '_, '_>,
     ) -> bool
         requires asked { P.CutPlan.asked plan.old self.now.from self.now.to }
+        requires far { Far (P.Plan.digraph plan.old) self.now.to (marked far.now) }
         ensures same { plan.new ≡ plan.old }
         ensures noted { result ≡ true → Trail (residual (P.Plan.digraph plan.old) (carried flow.now)) self.now.from self.now.to scratch.new.notes.before.now }
         ensures stuck { result ≡ false → residual_side (P.Plan.digraph plan.old) (carried flow.now) self.now.from self.now.to ≡ false }
@@ -86,6 +89,7 @@ impl Searching {
             &mut scratch.steps,
             self.from,
             Some(self.to),
+            &closed_to(flow, far, self.to),
         )
     }
 
@@ -95,16 +99,18 @@ impl Searching {
         &self,
         plan: &mut P,
         flow: &mut Arcs<'_>,
+        far: &Marks,
         scratch: &mut Scratch<'_, '_, '_>,
     ) -> bool
         requires asked { P.CutPlan.asked plan.old self.now.from self.now.to }
+        requires far { Far (P.Plan.digraph plan.old) self.now.to (marked far.now) }
         requires flow { Held (P.Plan.digraph plan.old) self.now flow.old }
         ensures same { plan.new ≡ plan.old }
         ensures pushed { result ≡ true → Flow (P.Plan.digraph plan.old) self.now.from self.now.to (carried flow.new) (self.now.value + 1) }
         ensures kept { result ≡ false → flow.new ≡ flow.old }
         ensures stuck { result ≡ false → residual_side (P.Plan.digraph plan.old) (carried flow.old) self.now.from self.now.to ≡ false }
     {
-        if !self.seek(plan, flow, scratch) {
+        if !self.seek(plan, flow, far, scratch) {
             return false;
         }
         let path = scratch.notes.trace(self.from, self.to);
@@ -117,15 +123,17 @@ impl Searching {
         self,
         plan: &mut P,
         flow: &mut Arcs<'_>,
+        far: &Marks,
         scratch: &mut Scratch<'_, '_, '_>,
     ) -> Pushed
         requires asked { P.CutPlan.asked plan.old self.from self.to }
+        requires far { Far (P.Plan.digraph plan.old) self.to (marked far.now) }
         requires flow { Held (P.Plan.digraph plan.old) self flow.old }
         ensures same { plan.new ≡ plan.old }
         ensures after { PushedOn (P.Plan.digraph plan.old) self result flow.new }
         ensures value { EndedAt (P.CutPlan.valued plan.old self.from self.to) result }
     {
-        let found = self.advance(plan, flow, scratch);
+        let found = self.advance(plan, flow, far, scratch);
         let Searching { from, to, value } = self;
         if found {
             Pushed::Continue(Searching {
@@ -173,6 +181,7 @@ impl Finished {
             &mut scratch.nodes,
             near_end,
             None,
+            &Marks::none(),
         );
     }
 
@@ -231,8 +240,9 @@ pub(crate) fn complete<P: CutPlan>(
     ensures largest { Largest (P.Plan.digraph plan.old) result flow.new }
 {
     let mut run = Searching::begin(count, flow, from, to);
+    let far = far_from(plan, to);
     loop {
-        match run.push(plan, flow, scratch) {
+        match run.push(plan, flow, &far, scratch) {
             Pushed::Continue(next) => run = next,
             Pushed::Break(last) => return last,
         }

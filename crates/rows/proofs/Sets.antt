@@ -47,6 +47,16 @@ marked_with m n p l h =
     ∙ guard_cond (ltb k 448) (eqb k p) true (has m.words 0 k) (λ e. let q = eqb-true k p e in lt-ltb k 448 (omega arith))
     ∙ sym (or_mask (ltb k 448 && has m.words 0 k) (eqb k p)))
 
+-- The marks of two sets together.
+pub marked_both : (m n : Marks) (ys : List ℕ) → length ys ≡ 7 → ((j : ℕ) → has n.words 0 j ≡ (has m.words 0 j || has ys 0 j))
+    → (q : ℕ) → marked n q ≡ (marked m q || has ys 0 q)
+unfolding marked
+marked_both m n ys size both q =
+    ⊎_elim
+    (λ l. rw (lt-ltb q 448 l) (both q))
+    (λ l. rw (le-ltb q 448 l) (sym (has_past ys 0 q (omega arith))))
+    (cases_lt q 448)
+
 -- Seven words have the marks and no more.
 pub marked_has : (m : Marks) (k : ℕ) → length m.words ≡ 7 → has m.words 0 k ≡ marked m k
 unfolding marked

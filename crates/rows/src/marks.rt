@@ -1,6 +1,7 @@
 // The nodes that a search has seen: a set of numbers below 448, in seven words.
-ghost use Rattle.std.specs.Prelude.{◌≡◌, ℕ, ◌-◌, ◌<◌, ◌≤◌, Bool, false, not, ◌||◌, if◌then◌else◌, ◌==◌};
+ghost use Rattle.std.specs.Prelude.{◌≡◌, ℕ, ◌-◌, ◌<◌, ◌≤◌, Bool, false, not, ◌||◌, length, if◌then◌else◌, ◌==◌};
 ghost use Rattle.graph.specs.Graph.{first};
+ghost use Rattle.bits.specs.Bits.{has};
 ghost use Rattle.rows.specs.Marks.{marked};
 
 // How many numbers the set can hold. A search has at most 402 nodes.
@@ -36,6 +37,15 @@ impl Marks {
         if p < MOST {
             bits::set(&mut self.words, p, true);
         }
+    }
+
+    // Marks the numbers of another set, in as many words.
+    #[tactic(auto, using(crate::proofs::Sets::marked_both))]
+    pub(crate) fn join(&mut self, others: &[u64])
+        requires { length others.now ≡ 7 }
+        ensures { (q : ℕ) → marked self.new q ≡ (marked self.old q || has others.now 0 q) }
+    {
+        bits::join(&mut self.words, others);
     }
 
     // Whether node p is marked.

@@ -1,11 +1,11 @@
 -- Numbers that pass a test and are not marked, and how a scan for the lowest of them goes on.
-use Rattle.std.proofs.Common.{◌≡◌, ℕ, ◌+◌, ◌-◌, ◌<◌, ◌≤◌, Bool, true, false, not, Some, None, sym, ap, ◌∙◌, arith}
-use Rattle.std.proofs.lemmas.Bool.{and_parts, and_from, and_left, and_right, not-true, not-false, not_from_true, not_from_false}
+use Rattle.std.proofs.Common.{◌≡◌, ℕ, ◌+◌, ◌-◌, ◌<◌, ◌≤◌, Bool, true, false, not, ◌&&◌, Some, None, sym, ap, ◌∙◌, arith}
+use Rattle.std.proofs.lemmas.Bool.{and_parts, and_from, and_left, and_right, or_right, not-true, not-false, not_from_true, not_from_false}
 use Rattle.graph.specs.Graph.{first}
 use Rattle.graph.proofs.Firsts.{Found, first_some, first_all}
 use Rattle.graph.proofs.Leaps as Leaps
 use Rattle.graph.proofs.Leaps.{Scan}
-use Rattle.flows.specs.Flow.{Digraph}
+use Rattle.flows.specs.Flow.{Digraph, residual}
 use Rattle.plan.specs.Plans.{next_arc}
 use Rattle.search.specs.Steps.{along, fresh}
 
@@ -76,6 +76,11 @@ module _ (m test : ℕ → Bool) {base : ℕ → Bool} {w v : ℕ} (s : Scan (fr
     leap_none a = Leaps.none behind free (omega arith) (first_all (λ k. not (m k)) (q + 1) n (sym a))
 
 module _ (d : Digraph) (f : ℕ → ℕ → Bool) (p q : ℕ) where
+  -- A step along an arc with room is a residual step.
+  pub along_step : along d f p q ≡ true → residual d f p q ≡ true
+  unfolding along
+  along_step h = or_right (f q p) (d.arc p q && not (f p q)) h
+
   -- Where no arc leads, none with room does.
   pub along_only : d.arc p q ≡ false → along d f p q ≡ false
   unfolding along

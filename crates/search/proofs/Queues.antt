@@ -12,7 +12,7 @@ use Rattle.graph.specs.Graph.{first}
 use Rattle.graph.proofs.Firsts.{Found, first_some, first_all}
 use Rattle.flows.specs.Flow.{Digraph, residual}
 use Rattle.augment.specs.Trails.{Trail}
-use Rattle.search.specs.Goals.{goal_from, goal_noted}
+use Rattle.search.specs.Goals.{way_on, goal_from, goal_noted}
 use Rattle.search.specs.Steps.{along, fresh}
 use Rattle.search.proofs.States.{State, Nobody, unmarked}
 use Rattle.search.proofs.Turns.{Turn, taken, recounted, along_all}
@@ -51,29 +51,30 @@ module _ {X : Type 0} (D : X → Digraph) {a b : X} (same : a ≡ b) where
     along_none h = none_at (fresh m (along (D b) f p)) w nodes (h ∙ asked)
 
   -- The goal is found with q.
-  module _ (f : ℕ → ℕ → Bool) (goal : Option ℕ) (q : ℕ) where
+  module _ (f : ℕ → ℕ → Bool) (closed : ℕ → Bool) (goal : Option ℕ) (q : ℕ) where
     -- Whether it is, is as it was.
-    pub value_in : {found : Bool} → found ≡ goal_from goal (along (D a) f q) q → found ≡ true → goal_from goal (along (D b) f q) q ≡ true
-    value_in value yes_found = ap (λ (x : X). goal_from goal (along (D x) f q) q) (sym same) ∙ sym value ∙ yes_found
+    pub value_in : {found : Bool} → found ≡ goal_from goal closed (way_on (D a) f closed q) q → found ≡ true
+        → goal_from goal closed (way_on (D b) f closed q) q ≡ true
+    value_in value yes_found = ap (λ (x : X). goal_from goal closed (way_on (D x) f closed q) q) (sym same) ∙ sym value ∙ yes_found
 
     -- And so are the notes that lead to it.
-    pub found_in : (s : ℕ) (noted : List ℕ) {after : List ℕ} → after ≡ goal_noted goal (along (D a) f q) q noted
-        → MatchOption goal ⊥ (λ t. Trail (residual (D b) f) s t (goal_noted goal (along (D b) f q) q noted))
+    pub found_in : (s : ℕ) (noted : List ℕ) {after : List ℕ} → after ≡ goal_noted goal closed (way_on (D a) f closed q) q noted
+        → MatchOption goal ⊥ (λ t. Trail (residual (D b) f) s t (goal_noted goal closed (way_on (D b) f closed q) q noted))
         → MatchOption goal ⊥ (λ t. Trail (residual (D b) f) s t after)
     found_in s noted notes =
         subst (λ (z : List ℕ). MatchOption goal ⊥ (λ t. Trail (residual (D b) f) s t z))
-        (ap (λ (x : X). goal_noted goal (along (D x) f q) q noted) (sym same) ∙ sym notes)
+        (ap (λ (x : X). goal_noted goal closed (way_on (D x) f closed q) q noted) (sym same) ∙ sym notes)
 
 -- A node p is looked at, in a plan of n nodes that is as it was.
-module _ {X : Type 0} (D : X → Digraph) {f : ℕ → ℕ → Bool} {s : ℕ} {goal : Option ℕ} {n p : ℕ} {m : ℕ → Bool} {before : List ℕ} where
+module _ {X : Type 0} (D : X → Digraph) {f : ℕ → ℕ → Bool} {s : ℕ} {stop : ℕ → Bool} {n p : ℕ} {m : ℕ → Bool} {before : List ℕ} where
   -- It has been taken from the queue.
   pub taken_first : {E : Type 0} (node : E → ℕ) {a b : X} {xs ys : List E} {x : E} → b ≡ a → n ≡ (D b).nodes → p ≡ node x → xs ≡ x ∷ ys
-      → State (D a) f s goal Nobody (map node xs) m before
-      → Turn (D b) f s goal p 0 0 (map node ys) m before (length (map node ys) + unmarked m n)
+      → State (D a) f s stop Nobody (map node xs) m before
+      → Turn (D b) f s stop p 0 0 (map node ys) m before (length (map node ys) + unmarked m n)
   taken_first node {b = b} {ys = ys} same nodes e items st =
-      let here : State (D b) f s goal Nobody (p ∷ map node ys) m before = rw (same, e) (rw items at st) in recounted (taken here) nodes
+      let here : State (D b) f s stop Nobody (p ∷ map node ys) m before = rw (same, e) (rw items at st) in recounted (taken here) nodes
 
   -- No more arc with room leads from p to a node that is not marked.
   pub arcs_done : {a b c : X} {queue : List ℕ} {v e : ℕ} → a ≡ b → c ≡ a → n ≡ (D b).nodes → None ≡ first (fresh m (along (D a) f p)) v (n - v)
-      → Turn (D b) f s goal p v 0 queue m before e → Turn (D c) f s goal p n 0 queue m before (length queue + unmarked m n)
+      → Turn (D b) f s stop p v 0 queue m before e → Turn (D c) f s stop p n 0 queue m before (length queue + unmarked m n)
   arcs_done {v = v} ab ca nodes h t = rw (ca, ab) (recounted (along_all t nodes (along_none D ab f m p v nodes h)) nodes)

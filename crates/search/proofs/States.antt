@@ -1,8 +1,6 @@
 -- What stays true of a search: each marked node has a trail, and is waiting or leads to marked
 -- nodes only.
 --
---   is_goal   whether q is what is looked for
---   off_goal  what is looked for is not marked
 --   Seen      a marked node is reached, by a trail over marked nodes
 --   State     what holds between two nodes, and while the nodes that Cur says are looked at
 --   begun     the start is marked and waits
@@ -23,16 +21,6 @@ use Rattle.flows.proofs.Routes.{walk_push, apart_push}
 use Rattle.augment.specs.Trails.{Noted, Trail}
 use Rattle.search.proofs.Notes.{noted_still, noted_push}
 
--- Without a goal nothing is it.
-abbrev pub is_goal : Option ℕ → ℕ → Bool
-is_goal None q = false
-is_goal (Some t) q = eqb q t
-
--- No goal, or one that is not marked.
-abbrev pub off_goal : Option ℕ → (ℕ → Bool) → Type 0
-off_goal None m = Unit {0}
-off_goal (Some t) m = m t ≡ false
-
 -- How many numbers below n are not marked.
 unfoldable pub unmarked : (ℕ → Bool) → ℕ → ℕ
 unmarked m n = count (λ k. not (m k)) n
@@ -49,34 +37,50 @@ pub record Seen (d : Digraph) (f : ℕ → ℕ → Bool) (s : ℕ) (m : ℕ → 
 pub record Done (d : Digraph) (f : ℕ → ℕ → Bool) (m : ℕ → Bool) (p : ℕ) : Type 0 where
   pub all : (q : ℕ) → q < d.nodes → residual d f p q ≡ true → m q ≡ true
 
--- The queue and the nodes that are not marked are no more than the nodes.
-pub record State (d : Digraph) (f : ℕ → ℕ → Bool) (s : ℕ) (goal : Option ℕ) (Cur : ℕ → Type 0) (queue : List ℕ) (m : ℕ → Bool) (before : List ℕ)
+-- The queue and the nodes that are not marked are no more than the nodes, and no marked node is one at
+-- which the search leaves off, as `stop` says.
+pub record State (d : Digraph) (f : ℕ → ℕ → Bool) (s : ℕ) (stop : ℕ → Bool) (Cur : ℕ → Type 0) (queue : List ℕ) (m : ℕ → Bool) (before : List ℕ)
     : Type 0 where
   pub below : s < d.nodes
   pub seen : (q : ℕ) → m q ≡ true → Seen d f s m before q
   pub start : m s ≡ true
   pub queued : (q : ℕ) → among queue q ≡ true → m q ≡ true
   pub left : length queue + unmarked m d.nodes ≤ d.nodes
-  pub off : off_goal goal m
+  pub off : (q : ℕ) → m q ≡ true → stop q ≡ false
   pub shut : (p : ℕ) → m p ≡ true → (among queue p ≡ true) ⊎ (Done d f m p ⊎ Cur p)
 
 -- No node is looked at.
 abbrev pub Nobody : ℕ → Type 0
 Nobody x = ⊥
 
-module _ {d : Digraph} {f : ℕ → ℕ → Bool} {s : ℕ} {goal : Option ℕ} {queue : List ℕ} {m : ℕ → Bool} {before : List ℕ} where
+-- At no node a search leaves off.
+abbrev pub nowhere : ℕ → Bool
+nowhere x = false
+
+module _ {d : Digraph} {f : ℕ → ℕ → Bool} {s : ℕ} {stop : ℕ → Bool} {queue : List ℕ} {m : ℕ → Bool} {before : List ℕ} where
+  -- A search that leaves off nowhere has marked the same.
+  pub unstopped : {Cur : ℕ → Type 0} → State d f s stop Cur queue m before → State d f s nowhere Cur queue m before
+  unstopped st = record {
+    below = st.below;
+    seen = st.seen;
+    start = st.start;
+    queued = st.queued;
+    left = st.left;
+    off = λ q h. refl;
+    shut = st.shut;
+  }
+
   -- At first the start alone is marked, and waits.
-  pub begun : s < d.nodes → ((k : ℕ) → m k ≡ eqb k s) → IfSome goal (λ t. (t < d.nodes) × (s ≡ t → ⊥)) → queue ≡ s ∷ []
-      → State d f s goal Nobody queue m before
+  pub begun : s < d.nodes → ((k : ℕ) → m k ≡ eqb k s) → stop s ≡ false → queue ≡ s ∷ [] → State d f s stop Nobody queue m before
   unfolding unmarked
-  begun l with-s apart alone =
-      subst (λ (z : List ℕ). State d f s goal Nobody z m before) (sym alone) (record {
+  begun l with-s goes alone =
+      subst (λ (z : List ℕ). State d f s stop Nobody z m before) (sym alone) (record {
         below = l;
         seen = λ q h. let e : q ≡ s = eqb-true q s (sym (with-s q) ∙ h) in subst (λ (x : ℕ). Seen d f s m before x) (sym e) first_seen;
         start = here;
         queued = λ q h. with-s q ∙ sym (among_one s q) ∙ h;
         left = omega (arith, count_miss (λ k. not (m k)) s d.nodes l (not_from_true (m s) here));
-        off = goal_off goal apart;
+        off = λ q h. ap stop (eqb-true q s (sym (with-s q) ∙ h)) ∙ goes;
         shut = λ p h. inl (among_one s p ∙ sym (with-s p) ∙ h);
       })
     where
@@ -94,13 +98,12 @@ module _ {d : Digraph} {f : ℕ → ℕ → Bool} {s : ℕ} {goal : Option ℕ} 
         within = λ v h. with-s v ∙ sym (among_one s v) ∙ h;
       }
 
-      -- A goal is another node, and not marked.
-      goal_off : (goal : Option ℕ) → IfSome goal (λ t. (t < d.nodes) × (s ≡ t → ⊥)) → off_goal goal m
-      goal_off None a = tt
-      goal_off (Some t) a = with-s t ∙ ne_eqb t s (λ e. a.1 (sym e))
+  -- A trail leads to each marked node.
+  pub found_here : {Cur : ℕ → Type 0} {q : ℕ} → State d f s stop Cur queue m before → m q ≡ true → Trail (residual d f) s q before
+  found_here {q = q} st h = let y = st.seen q h in record { nodes = y.nodes; route = y.route; noted = y.noted }
 
   -- When nothing waits, what is marked is what is reached.
-  pub ended : queue ≡ [] → State d f s goal Nobody queue m before → (q : ℕ) → m q ≡ residual_side d f s q
+  pub ended : queue ≡ [] → State d f s stop Nobody queue m before → (q : ℕ) → m q ≡ residual_side d f s q
   ended empty st =
       reached_is d.nodes (residual d f) s st.below m st.start
       (λ p q _ l h e. ⊎_elim
@@ -109,20 +112,15 @@ module _ {d : Digraph} {f : ℕ → ℕ → Bool} {s : ℕ} {goal : Option ℕ} 
       (st.shut p h))
       (λ q h. (st.seen q h).reached)
 
-  -- Then the goal is not reached.
-  pub missed : queue ≡ [] → State d f s goal Nobody queue m before → IfSome goal (λ t. residual_side d f s t ≡ false)
-  missed empty st = go goal (ended empty st) st.off
-    where
-      -- By the goal, if there is one.
-      go : (goal : Option ℕ) → ((q : ℕ) → m q ≡ residual_side d f s q) → off_goal goal m → IfSome goal (λ t. residual_side d f s t ≡ false)
-      go None e o = tt
-      go (Some t) e o = sym (e t) ∙ o
+  -- Then no node at which the search leaves off is reached.
+  pub missed : queue ≡ [] → State d f s stop Nobody queue m before → (t : ℕ) → stop t ≡ true → residual_side d f s t ≡ false
+  missed empty st t h = sym (ended empty st t) ∙ never_true (m t) (λ e. both_ways (stop t) (st.off t e) h)
 
 -- A residual step leads from a marked node p to a node q that is not marked. Now q is marked, and
 -- there is room to note p for it.
-pub record Entry (d : Digraph) (f : ℕ → ℕ → Bool) (s : ℕ) (goal : Option ℕ) (Cur : ℕ → Type 0) (queue : List ℕ) (m m' : ℕ → Bool) (before : List ℕ)
+pub record Entry (d : Digraph) (f : ℕ → ℕ → Bool) (s : ℕ) (stop : ℕ → Bool) (Cur : ℕ → Type 0) (queue : List ℕ) (m m' : ℕ → Bool) (before : List ℕ)
     (p q : ℕ) : Type 0 where
-  pub state : State d f s goal Cur queue m before
+  pub state : State d f s stop Cur queue m before
   pub from : m p ≡ true
   pub free : m q ≡ false
   pub node : q < d.nodes
@@ -130,8 +128,8 @@ pub record Entry (d : Digraph) (f : ℕ → ℕ → Bool) (s : ℕ) (goal : Opti
   pub wide : q < length before
   pub with_q : (k : ℕ) → m' k ≡ (m k || eqb k q)
 
-module _ {d : Digraph} {f : ℕ → ℕ → Bool} {s : ℕ} {goal : Option ℕ} {Cur : ℕ → Type 0} {queue : List ℕ} {m m' : ℕ → Bool} {before : List ℕ} {p q : ℕ}
-    (new : Entry d f s goal Cur queue m m' before p q) where
+module _ {d : Digraph} {f : ℕ → ℕ → Bool} {s : ℕ} {stop : ℕ → Bool} {Cur : ℕ → Type 0} {queue : List ℕ} {m m' : ℕ → Bool} {before : List ℕ} {p q : ℕ}
+    (new : Entry d f s stop Cur queue m m' before p q) where
   -- What was marked is.
   pub grown : (k : ℕ) → m k ≡ true → m' k ≡ true
   grown k h = new.with_q k ∙ or_left (m k) (eqb k q) h
@@ -141,7 +139,7 @@ module _ {d : Digraph} {f : ℕ → ℕ → Bool} {s : ℕ} {goal : Option ℕ} 
   new_marked = new.with_q q ∙ or_right (m q) (eqb q q) (eq-eqb q q refl)
 
   -- And nothing else.
-  split : (k : ℕ) → m' k ≡ true → (k ≡ q) ⊎ (m k ≡ true)
+  pub split : (k : ℕ) → m' k ≡ true → (k ≡ q) ⊎ (m k ≡ true)
   split k h = ⊎_elim inr (λ e. inl (eqb-true k q e)) (or_cases (m k) (eqb k q) (sym (new.with_q k) ∙ h))
 
   -- No trail so far goes over q.
@@ -173,17 +171,12 @@ module _ {d : Digraph} {f : ℕ → ℕ → Bool} {s : ℕ} {goal : Option ℕ} 
   }
 
   -- A trail leads to q.
-  trail : Trail (residual d f) s q (set before q p)
+  pub trail : Trail (residual d f) s q (set before q p)
   trail = let y = longer (new.state.seen p new.from) in record { nodes = y.nodes; route = y.route; noted = y.noted }
 
-  -- If q is the goal, that is what was looked for.
-  pub goal_found : is_goal goal q ≡ true → MatchOption goal ⊥ (λ t. Trail (residual d f) s t (set before q p))
-  goal_found = go goal
-    where
-      -- By the goal, if there is one.
-      go : (goal : Option ℕ) → is_goal goal q ≡ true → MatchOption goal ⊥ (λ t. Trail (residual d f) s t (set before q p))
-      go None e = both_ways false refl e
-      go (Some t) e = subst (λ (x : ℕ). Trail (residual d f) s x (set before q p)) (eqb-true q t e) trail
+  -- The same of a search that leaves off nowhere.
+  pub free_of : Entry d f s nowhere Cur queue m m' before p q
+  free_of = record { state = unstopped new.state; from = new.from; free = new.free; node = new.node; step = new.step; wide = new.wide; with_q = new.with_q }
 
   -- One node less is not marked.
   pub fewer : unmarked m d.nodes ≡ unmarked m' d.nodes + 1
@@ -215,8 +208,8 @@ module _ {d : Digraph} {f : ℕ → ℕ → Bool} {s : ℕ} {goal : Option ℕ} 
       (new.state.shut x o))
       (split x h)
 
-  -- Unless q is the goal, the search goes on with q waiting.
-  pub entered : is_goal goal q ≡ false → State d f s goal Cur (queue ++ (q ∷ [])) m' (set before q p)
+  -- Unless the search leaves off at q, it goes on with q waiting.
+  pub entered : stop q ≡ false → State d f s stop Cur (queue ++ (q ∷ [])) m' (set before q p)
   entered ng = record {
     below = new.state.below;
     seen = all_seen;
@@ -224,11 +217,6 @@ module _ {d : Digraph} {f : ℕ → ℕ → Bool} {s : ℕ} {goal : Option ℕ} 
     queued = λ x h. ⊎_elim (λ a. grown x (new.state.queued x a)) (λ e. new.with_q x ∙ or_right (m x) (eqb x q) e)
         (or_cases (among queue x) (eqb x q) (sym (among_push queue q x) ∙ h));
     left = omega (arith, new.state.left, fewer, length-append queue (q ∷ []));
-    off = goal_still goal ng new.state.off;
+    off = λ x h. ⊎_elim (λ e. ap stop e ∙ ng) (new.state.off x) (split x h);
     shut = all_shut;
   }
-    where
-      -- A goal is another node than q, and still not marked.
-      goal_still : (goal : Option ℕ) → is_goal goal q ≡ false → off_goal goal m → off_goal goal m'
-      goal_still None e o = tt
-      goal_still (Some t) e o = new.with_q t ∙ or_from (m t) (eqb t q) o (ne_eqb t q (λ x. eqb-false q t e (sym x)))

@@ -1,36 +1,82 @@
-// How a search finds its goal: at a node, or one step on from it.
-ghost use Rattle.std.specs.Prelude.{◌≡◌, ◌<◌, IfSome};
+// How a search finds its goal: at a node, one step on from it, or two steps on. It looks two steps
+// ahead by a set: the nodes from which no arc with room leads to the goal. The others are open.
+ghost use Rattle.std.specs.Prelude.{◌≡◌, ◌<◌, IfSome, is_some};
 ghost use Rattle.graph.specs.Graph.{node_limit};
+ghost use Rattle.flows.specs.Flow.{Digraph};
 ghost use Rattle.rows.specs.Flow.{carried};
-ghost use Rattle.search.specs.Goals.{goal_from, goal_noted};
-ghost use Rattle.search.specs.Steps.{along};
+ghost use Rattle.rows.specs.Marks.{marked};
+ghost use Rattle.search.specs.Goals.{Far, Closed, way_on, on_noted, goal_from, goal_noted};
 
-use crate::steps::has_room;
+use crate::steps::next_along;
 use augment::Notes;
 use plan::Plan;
 use rows::flow::Arcs;
+use rows::marks::Marks;
 
-// Whether an arc with room leads from q to t.
-#[tactic(auto, unfolding(crate::specs::Steps::along))]
-fn leads_on<P: Plan>(plan: &mut P, flow: &Arcs<'_>, q: u16, t: u16) -> bool
-    ensures value { result ≡ along (P.Plan.digraph plan.old) (carried flow.now) q t }
+// The nodes from which no arc leads to t. They stay the same while a run pushes.
+pub fn far_from<P: Plan>(plan: &mut P, t: u16) -> Marks
+    ensures far { Far (P.Plan.digraph plan.old) t (marked result) }
     ensures same { plan.new ≡ plan.old }
 {
-    plan.leads(q, t) && has_room(flow, q, t)
+    let n = plan.node_count();
+    let mut far = Marks::none();
+    for p in 0..n {
+        if !plan.leads(p, t) {
+            far.mark(p);
+        }
+    }
+    far
 }
 
-// Whether q is the goal, or an arc with room leads on from q to it; in the second case q is noted as
-// the node before the goal. So a search looks one step ahead of each node that it finds.
+// The nodes from which no arc with room leads to t: those from which no arc does, and those from
+// which the flow goes to t already.
+pub fn closed_to(flow: &Arcs<'_>, far: &Marks, t: u16) -> Marks
+    requires { t < node_limit }
+    ensures { (d : Digraph) → Far d t (marked far.now) → Closed d (carried flow.now) t (marked result) }
+{
+    flow.with_tails(t, far)
+}
+
+// Whether an arc with room leads on from q to an open node; the lowest is noted, on the way to t.
+fn leads_on<P: Plan>(
+    plan: &mut P,
+    flow: &Arcs<'_>,
+    notes: &mut Notes<'_>,
+    closed: &Marks,
+    t: u16,
+    q: u16,
+    n: u16,
+) -> bool
+    requires nodes { n ≡ (P.Plan.digraph plan.old).nodes }
+    requires within { t < node_limit }
+    ensures value { result ≡ is_some (way_on (P.Plan.digraph plan.old) (carried flow.now) (marked closed.now) q) }
+    ensures notes { notes.new.before.now ≡ on_noted (way_on (P.Plan.digraph plan.old) (carried flow.now) (marked closed.now) q) q t notes.old.before.now }
+    ensures same { plan.new ≡ plan.old }
+    ensures same_reference { notes.new.before.ghost_name ≡ notes.old.before.ghost_name }
+{
+    let Some(r) = next_along(plan, flow, closed, q, 0, n) else {
+        return false;
+    };
+    notes.note(r, q);
+    notes.note(t, r);
+    true
+}
+
+// Whether q is the goal, or open, or an arc with room leads on from q to an open node; the steps from
+// q to the goal are noted. So a search looks two steps ahead of each node that it finds.
 pub(crate) fn finds_goal<P: Plan>(
     plan: &mut P,
     flow: &Arcs<'_>,
     notes: &mut Notes<'_>,
+    closed: &Marks,
     goal: Option<u16>,
     q: u16,
+    n: u16,
 ) -> bool
-    requires { IfSome goal (λ t. t < node_limit) }
-    ensures value { result ≡ goal_from goal (along (P.Plan.digraph plan.old) (carried flow.now) q) q }
-    ensures notes { notes.new.before.now ≡ goal_noted goal (along (P.Plan.digraph plan.old) (carried flow.now) q) q notes.old.before.now }
+    requires nodes { n ≡ (P.Plan.digraph plan.old).nodes }
+    requires within { IfSome goal (λ t. t < node_limit) }
+    ensures value { result ≡ goal_from goal (marked closed.now) (way_on (P.Plan.digraph plan.old) (carried flow.now) (marked closed.now) q) q }
+    ensures notes { notes.new.before.now ≡ goal_noted goal (marked closed.now) (way_on (P.Plan.digraph plan.old) (carried flow.now) (marked closed.now) q) q notes.old.before.now }
     ensures same { plan.new ≡ plan.old }
     ensures same_reference { notes.new.before.ghost_name ≡ notes.old.before.ghost_name }
 {
@@ -40,9 +86,9 @@ pub(crate) fn finds_goal<P: Plan>(
     if q == t {
         return true;
     }
-    let ahead = leads_on(plan, flow, q, t);
-    if ahead {
+    if !closed.has(q) {
         notes.note(t, q);
+        return true;
     }
-    ahead
+    leads_on(plan, flow, notes, closed, t, q, n)
 }

@@ -4,11 +4,12 @@
 // whether the flow leaves room on it.
 #![tactic(auto)]
 
-ghost use Rattle.std.specs.Prelude.{◌≡◌, ℕ, ◌<◌, true, false, IfSome, MatchOption, ◌≢◌};
+ghost use Rattle.std.specs.Prelude.{◌≡◌, ℕ, ◌<◌, true, false, IfSome, MatchOption};
 ghost use Rattle.flows.specs.Flow.{residual, residual_side};
 ghost use Rattle.rows.specs.Flow.{carried};
 ghost use Rattle.rows.specs.Marks.{marked};
 ghost use Rattle.augment.specs.Trails.{Trail};
+ghost use Rattle.search.specs.Goals.{Closed};
 
 mod goal;
 mod queue;
@@ -18,6 +19,7 @@ mod waiting;
 
 use augment::Notes;
 use goal::finds_goal;
+pub use goal::{closed_to, far_from};
 use plan::Plan;
 use queue::enter;
 use ring::Ring;
@@ -28,8 +30,9 @@ use steps::{next_along, next_back};
 pub use waiting::Waiting;
 
 // Marks what `from` reaches by residual steps: along an arc with room, or back along the flow. With
-// a goal, it leaves off at the first node that is the goal, or from which an arc with room leads to
-// it, and the notes lead back. The path stands in the notes, so the answer is a flag.
+// a goal, it leaves off at the first node that is the goal or from which one arc with room, or two,
+// lead to it, and the notes lead back. The path stands in the notes, so the answer is a flag. Lent
+// with a goal are the nodes from which no arc with room leads to it.
 pub fn search<P: Plan, E: Waiting>(
     plan: &mut P,
     flow: &Arcs<'_>,
@@ -38,9 +41,10 @@ pub fn search<P: Plan, E: Waiting>(
     slots: &mut Slots<'_, E>,
     from: u16,
     goal: Option<u16>,
+    closed: &Marks,
 ) -> bool
     requires start { from < (P.Plan.digraph plan.old).nodes }
-    requires goal { IfSome goal (λ t. (t < (P.Plan.digraph plan.old).nodes) × (from ≢ t)) }
+    requires goal { IfSome goal (λ t. (t < (P.Plan.digraph plan.old).nodes) × Closed (P.Plan.digraph plan.old) (carried flow.now) t (marked closed.now)) }
     ensures same { plan.new ≡ plan.old }
     ensures same_reference { notes.new.before.ghost_name ≡ notes.old.before.ghost_name }
     ensures found { result ≡ true → MatchOption goal ⊥ (λ t. Trail (residual (P.Plan.digraph plan.old) (carried flow.now)) from t notes.new.before.now) }
@@ -51,7 +55,7 @@ pub fn search<P: Plan, E: Waiting>(
     marks.clear();
     let mut queue = Ring::new(slots.cells);
     enter(marks, &mut queue, from, from, true);
-    if finds_goal(plan, flow, notes, goal, from) {
+    if finds_goal(plan, flow, notes, closed, goal, from, n) {
         return true;
     }
     let mut found = false;
@@ -63,7 +67,7 @@ pub fn search<P: Plan, E: Waiting>(
         'along: while let Some(q) = next_along(plan, flow, marks, p, ahead, n) {
             notes.note(q, p);
             enter(marks, &mut queue, q, p, true);
-            if finds_goal(plan, flow, notes, goal, q) {
+            if finds_goal(plan, flow, notes, closed, goal, q, n) {
                 found = true;
                 break 'search;
             }
@@ -73,7 +77,7 @@ pub fn search<P: Plan, E: Waiting>(
         'back: while let Some(q) = next_back(flow, marks, p, behind, n) {
             notes.note(q, p);
             enter(marks, &mut queue, q, p, false);
-            if finds_goal(plan, flow, notes, goal, q) {
+            if finds_goal(plan, flow, notes, closed, goal, q, n) {
                 found = true;
                 break 'search;
             }

@@ -1,11 +1,13 @@
 // What a search and a flow ask of a set of arcs, and the writes. That a set lies over the same words
 // after a write (`same_reference`) has to be said of each.
-ghost use Rattle.std.specs.Prelude.{◌≡◌, ℕ, ◌-◌, ◌<◌, ◌≤◌, true, false, length};
+ghost use Rattle.std.specs.Prelude.{◌≡◌, ℕ, ◌-◌, ◌<◌, ◌≤◌, true, false, ◌||◌, length};
 ghost use Rattle.graph.specs.Graph.{first};
 ghost use Rattle.bits.specs.Bits.{has};
 ghost use Rattle.rows.specs.Flow.{carried, with_arc, without_arc};
+ghost use Rattle.rows.specs.Marks.{marked};
 
 use super::Arcs;
+use crate::marks::Marks;
 
 // How many words a row takes, how many of them have bits, and how many rows there are at most.
 const ROW_WORDS: usize = 8;
@@ -50,6 +52,16 @@ impl<'a> Arcs<'a> {
         ensures { result ≡ carried self.now q p }
     {
         p < ROWS && bits::has(self.row(p), q)
+    }
+
+    // The nodes of a set and, besides them, the tails of the arcs to p.
+    pub fn with_tails(&self, p: u16, set: &Marks) -> Marks
+        requires { p < 512 }
+        ensures { (q : ℕ) → marked result q ≡ (marked set.now q || carried self.now q p) }
+    {
+        let mut both = *set;
+        both.join(self.row(p));
+        both
     }
 
     // Puts the arc from q to p in, or takes it out.

@@ -1,30 +1,28 @@
-use Rattle.std.proofs.Common.{◌≡◌, ℕ, ◌+◌, ◌<◌, IfSome, List, [], ◌∷◌, ◌++◌, map, length, refl, ap, ◌∙◌, arith}
+use Rattle.std.proofs.Common.{◌≡◌, ℕ, ◌+◌, ◌<◌, Bool, false, IfSome, List, [], ◌∷◌, ◌++◌, map, length, inl, sym, refl, ap, ◌∙◌, arith}
 use Rattle.std.proofs.lemmas.List.{length-map}
-use Rattle.std.proofs.lemmas.Bool.{or_left}
+use Rattle.std.proofs.lemmas.Bool.{or_left, eqb-true}
 use Rattle.graph.proofs.Firsts.{Found}
 use Rattle.rows.specs.Flow.{carried}
 use Rattle.rows.specs.Marks.{marked}
 use Rattle.search.specs.Steps.{along, back, fresh}
-use Rattle.search.proofs.States.{State, Nobody, unmarked, begun, ended, missed}
-use Rattle.search.proofs.Finds.{goal_node, goal_apart, goal_fits, passed_by, step_on}
-use Rattle.search.proofs.Turns.{Turn, back_all, along_step, found, has_room, by_along, by_back}
+use Rattle.search.specs.Goals.{Closed, leaves_off}
+use Rattle.search.proofs.States.{State, Nobody, nowhere, unmarked, begun, ended, missed}
+use Rattle.search.proofs.Finds.{goal_missed, no_goal, passed_by, found_on}
+use Rattle.search.proofs.Fresh.{along_step}
+use Rattle.search.proofs.Turns.{Turn, back_all, found, has_room, by_along, by_back}
 use Rattle.search.proofs.Queues.{each, first_marks, along_found, found_at, none_at, value_in, found_in, taken_first, arcs_done}
 use Rattle.search.proofs.search.Given as given
 use Rattle.search.proofs.search.Goals as goal
 use Rattle.search.proofs.search.Goals.{After-finds_goal, After-next_along, In-Some-next_along, After-finds_goal-in-Some-next_along, After-next_back, In-Some-next_back, After-finds_goal-in-Some-next_back}
 
--- At first the start alone is marked, and waits.
-state_first : (g : given.Over) (c : After-finds_goal g) (before : List ℕ)
-    → State (g.P.Plan.digraph c.args.plan.now) (carried c.args.flow.now) c.args.from c.args.goal Nobody
+-- At first the start alone is marked, and waits, unless the search leaves off at it.
+state_first : (g : given.Over) (c : After-finds_goal g) (stop : ℕ → Bool) (before : List ℕ) → stop c.args.from ≡ false
+    → State (g.P.Plan.digraph c.args.plan.now) (carried c.args.flow.now) c.args.from stop Nobody
     (map g.E.Waiting.node c.enter.new.queue.items) (marked c.enter.new.marks) before
-state_first g c before =
+state_first g c stop before goes =
     let alone = ap (λ (z : List g.row.E.Denot). map g.E.Waiting.node z ++ (c.args.from ∷ [])) c.new-queue.ensures.items in
     let marks = first_marks c.args.from c.clear.ensures c.enter.ensures.marks in
-    begun c.requires.start marks c.requires.goal (c.enter.ensures.nodes ∙ alone)
-
--- A goal is a node of the plan as it was given, and has a place among the notes.
-goal_first : (g : given.Over) (c : After-finds_goal g) → IfSome c.args.goal (λ t. t < (g.P.Plan.digraph c.args.plan.now).nodes)
-goal_first g c = goal_node c.args.goal c.args.from (g.P.Plan.digraph c.args.plan.now).nodes c.requires.goal
+    begun c.requires.start marks goes (c.enter.ensures.nodes ∙ alone)
 
 -- The plan is as it was given, while arcs are looked at.
 kept_ahead : (g : given.Over) (c : After-next_along g) → c.search.plan ≡ c.args.plan.now
@@ -32,7 +30,7 @@ kept_ahead g c = c.search.invariant.0 ∙ c.finds_goal.ensures.same ∙ c.node_c
 
 -- While arcs are looked at, a node is, with its arcs up to the next.
 turn_ahead : (g : given.Over) (c : After-next_along g)
-    → Turn (g.P.Plan.digraph c.search.plan) (carried c.args.flow.now) c.args.from c.args.goal c.node-p.result c.along.ahead 0
+    → Turn (g.P.Plan.digraph c.search.plan) (carried c.args.flow.now) c.args.from (leaves_off c.args.goal (marked c.args.closed.now)) c.node-p.result c.along.ahead 0
     (map g.E.Waiting.node c.along.queue.items) (marked c.along.marks) c.along.notes.before.now
     (length (map g.E.Waiting.node c.pop.new.self.items) + unmarked (marked c.search.marks) c.node_count-n.result)
 turn_ahead g c =
@@ -57,7 +55,7 @@ nodes_behind g c = rw (c.in_default-next_along.ensures.same, c.along.invariant.0
 
 -- While the flow is looked at, a node is, with all its arcs, and with the flow up to the next.
 turn_behind : (g : given.Over) (c : After-next_back g)
-    → Turn (g.P.Plan.digraph c.next_along.new.plan) (carried c.args.flow.now) c.args.from c.args.goal c.node-p.result
+    → Turn (g.P.Plan.digraph c.next_along.new.plan) (carried c.args.flow.now) c.args.from (leaves_off c.args.goal (marked c.args.closed.now)) c.node-p.result
     c.node_count-n.result c.back.behind
     (map g.E.Waiting.node c.back.queue.items) (marked c.back.marks) c.back.notes.before.now
     (length (map g.E.Waiting.node c.along.queue.items) + unmarked (marked c.along.marks) c.node_count-n.result)
@@ -81,12 +79,14 @@ wide_behind g c =
 pub search-init : goal.search-init
 search-init g c =
     let at = goal.at.search-init g c in
-    let same = c.finds_goal.ensures.same ∙ c.node_count-n.ensures.same in (
+    let same = c.finds_goal.ensures.same ∙ c.node_count-n.ensures.same in
+    let none = no_goal c.args.goal (marked c.args.closed.now) _ c.args.from c.args.notes.now.before.now (sym c.finds_goal.ensures.value ∙ c.if-finds_goal.false) in
+    let goes = none.0 in (
       refl,
       refl,
       rw same c.node_count-n.ensures.value,
       omega (arith, c.enter.ensures.room, c.new-queue.ensures.room, c.args.slots.now.fits),
-      rw same (state_first g at.After-finds_goal c.finds_goal.new.notes.before.now),
+      rw same (state_first g at.After-finds_goal _ c.finds_goal.new.notes.before.now goes),
       refl,
     )
 
@@ -115,7 +115,7 @@ pub along-preserved : goal.along-preserved
 along-preserved g c =
     let at = goal.at.along-preserved g c in
     let same = c.finds_goal-in-Some-next_along.ensures.same ∙ c.in-Some-next_along.ensures.same ∙ c.along.invariant.0 in
-    let after = passed_by c.args.goal _ c.in-Some-next_along.q c.along.notes.before.now c.node-p.result c.finds_goal-in-Some-next_along.ensures.value
+    let after = passed_by c.args.goal (marked c.args.closed.now) _ c.in-Some-next_along.q c.along.notes.before.now c.node-p.result c.finds_goal-in-Some-next_along.ensures.value
     c.if-finds_goal-2.false c.finds_goal-in-Some-next_along.ensures.notes c.note.ensures.notes in (
       same,
       c.along.invariant.1,
@@ -152,7 +152,7 @@ back-smaller g c =
 pub back-preserved : goal.back-preserved
 back-preserved g c =
     let at = goal.at.back-preserved g c in
-    let after = passed_by c.args.goal _ c.in-Some-next_back.q c.back.notes.before.now c.node-p.result c.finds_goal-in-Some-next_back.ensures.value
+    let after = passed_by c.args.goal (marked c.args.closed.now) _ c.in-Some-next_back.q c.back.notes.before.now c.node-p.result c.finds_goal-in-Some-next_back.ensures.value
     c.if-finds_goal-3.false c.finds_goal-in-Some-next_back.ensures.notes c.note-in-Some-next_back.ensures.notes in (
       c.finds_goal-in-Some-next_back.ensures.same ∙ c.back.invariant.0,
       c.back.invariant.1,
@@ -188,40 +188,41 @@ pub returns-then-finds_goal-clause-found : goal.returns-then-finds_goal-clause-f
 returns-then-finds_goal-clause-found g c _ =
     let at = goal.at.returns-then-finds_goal-clause-found g c in
     let f = carried c.args.flow.now in
-    let node = goal_first g at.After-finds_goal in
-    let fits = goal_fits c.args.goal node (omega (arith, g.P.Plan.small c.args.plan.now, c.args.notes.now.fits)) in
-    let start = state_first g at.After-finds_goal c.args.notes.now.before.now in
-    found_in g.P.Plan.digraph c.node_count-n.ensures.same f c.args.goal c.args.from c.args.from c.args.notes.now.before.now c.finds_goal.ensures.notes
-    (step_on (along (g.P.Plan.digraph c.args.plan.now) f c.args.from) (along_step (g.P.Plan.digraph c.args.plan.now) f c.args.from) c.args.goal start start.start
-    (goal_apart c.args.goal c.args.from (g.P.Plan.digraph c.args.plan.now).nodes c.requires.goal) node fits
-    (value_in g.P.Plan.digraph c.node_count-n.ensures.same f c.args.goal c.args.from c.finds_goal.ensures.value c.if-finds_goal.true))
+    let closed = marked c.args.closed.now in
+    let start = state_first g at.After-finds_goal nowhere c.args.notes.now.before.now refl in
+    let marks = first_marks c.args.from c.clear.ensures c.enter.ensures.marks in
+    found_in g.P.Plan.digraph c.node_count-n.ensures.same f closed c.args.goal c.args.from c.args.from c.args.notes.now.before.now c.finds_goal.ensures.notes
+    (found_on closed c.args.goal start start.start c.requires.start (omega (arith, g.P.Plan.small c.args.plan.now, c.args.notes.now.fits))
+    (λ x h. inl (eqb-true x c.args.from (sym (marks x) ∙ h))) c.requires.goal
+    (value_in g.P.Plan.digraph c.node_count-n.ensures.same f closed c.args.goal c.args.from c.finds_goal.ensures.value c.if-finds_goal.true))
 
 pub returns-then-finds_goal-2-clause-found : goal.returns-then-finds_goal-2-clause-found
 returns-then-finds_goal-2-clause-found g c _ =
     let at = goal.at.returns-then-finds_goal-2-clause-found g c in
     let f = carried c.args.flow.now in
+    let closed = marked c.args.closed.now in
     let kept = kept_ahead g at.After-next_along in
     let here = c.in-Some-next_along.ensures.same ∙ c.along.invariant.0 in
-    let node : IfSome c.args.goal (λ t. t < (g.P.Plan.digraph c.search.plan).nodes) = rw kept (goal_first g at.After-finds_goal) in
-    let fits = goal_fits c.args.goal node (omega (arith, g.P.Plan.small c.search.plan, c.note.new.self.fits)) in
+    let sought : IfSome c.args.goal (λ t. (t < (g.P.Plan.digraph c.search.plan).nodes) × Closed (g.P.Plan.digraph c.search.plan) f t closed) = rw kept c.requires.goal in
     rw (← kept)
-    (found_in g.P.Plan.digraph here f c.args.goal c.in-Some-next_along.q c.args.from c.note.new.self.before.now c.finds_goal-in-Some-next_along.ensures.notes
-    (found (turn_ahead g at.After-next_along) (wide_ahead g at.In-Some-next_along) c.note.ensures.notes _ (next_ahead g at.In-Some-next_along)
-    (along_step _ _ _ _) node fits
-    (value_in g.P.Plan.digraph here f c.args.goal c.in-Some-next_along.q c.finds_goal-in-Some-next_along.ensures.value c.if-finds_goal-2.true)))
+    (found_in g.P.Plan.digraph here f closed c.args.goal c.in-Some-next_along.q c.args.from c.note.new.self.before.now c.finds_goal-in-Some-next_along.ensures.notes
+    (found (turn_ahead g at.After-next_along) (wide_ahead g at.In-Some-next_along) c.note.ensures.notes c.args.goal closed (λ x h. h) _
+    (next_ahead g at.In-Some-next_along) (along_step _ _ _ _) sought (omega (arith, g.P.Plan.small c.search.plan, c.note.new.self.fits))
+    (value_in g.P.Plan.digraph here f closed c.args.goal c.in-Some-next_along.q c.finds_goal-in-Some-next_along.ensures.value c.if-finds_goal-2.true)))
 
 pub returns-then-finds_goal-3-clause-found : goal.returns-then-finds_goal-3-clause-found
 returns-then-finds_goal-3-clause-found g c _ =
     let at = goal.at.returns-then-finds_goal-3-clause-found g c in
     let f = carried c.args.flow.now in
+    let closed = marked c.args.closed.now in
     let kept = c.in_default-next_along.ensures.same ∙ c.along.invariant.0 ∙ kept_ahead g at.After-next_along in
-    let node : IfSome c.args.goal (λ t. t < (g.P.Plan.digraph c.next_along.new.plan).nodes) = rw kept (goal_first g at.After-finds_goal) in
-    let fits = goal_fits c.args.goal node (omega (arith, g.P.Plan.small c.next_along.new.plan, c.note-in-Some-next_back.new.self.fits)) in
+    let sought : IfSome c.args.goal (λ t. (t < (g.P.Plan.digraph c.next_along.new.plan).nodes) × Closed (g.P.Plan.digraph c.next_along.new.plan) f t closed) =
+    rw kept c.requires.goal in
     rw (← kept)
-    (found_in g.P.Plan.digraph c.back.invariant.0 f c.args.goal c.in-Some-next_back.q c.args.from c.note-in-Some-next_back.new.self.before.now c.finds_goal-in-Some-next_back.ensures.notes
-    (found (turn_behind g at.After-next_back) (wide_behind g at.In-Some-next_back) c.note-in-Some-next_back.ensures.notes _ (next_behind g at.In-Some-next_back)
-    (or_left _ _) node fits
-    (value_in g.P.Plan.digraph c.back.invariant.0 f c.args.goal c.in-Some-next_back.q c.finds_goal-in-Some-next_back.ensures.value c.if-finds_goal-3.true)))
+    (found_in g.P.Plan.digraph c.back.invariant.0 f closed c.args.goal c.in-Some-next_back.q c.args.from c.note-in-Some-next_back.new.self.before.now c.finds_goal-in-Some-next_back.ensures.notes
+    (found (turn_behind g at.After-next_back) (wide_behind g at.In-Some-next_back) c.note-in-Some-next_back.ensures.notes c.args.goal closed (λ x h. h) _
+    (next_behind g at.In-Some-next_back) (or_left _ _) sought (omega (arith, g.P.Plan.small c.next_along.new.plan, c.note-in-Some-next_back.new.self.fits))
+    (value_in g.P.Plan.digraph c.back.invariant.0 f closed c.args.goal c.in-Some-next_back.q c.finds_goal-in-Some-next_back.ensures.value c.if-finds_goal-3.true)))
 
 -- Nothing waits any more.
 pub returns-in_default-clause-swept : goal.returns-in_default-clause-swept
@@ -230,4 +231,5 @@ returns-in_default-clause-swept g c _ =
 
 pub returns-in_default-clause-missed : goal.returns-in_default-clause-missed
 returns-in_default-clause-missed g c _ =
-    rw (← (c.finds_goal.ensures.same ∙ c.node_count-n.ensures.same)) (missed (ap (map g.E.Waiting.node) c.in_default.ensures.items) c.search.invariant.4)
+    rw (← (c.finds_goal.ensures.same ∙ c.node_count-n.ensures.same))
+    (goal_missed c.args.goal (marked c.args.closed.now) (missed (ap (map g.E.Waiting.node) c.in_default.ensures.items) c.search.invariant.4))

@@ -10,11 +10,12 @@ use Rattle.connectivity.proofs.run.complete.Goals as goal
 pub loop-next-init : goal.loop-next-init
 loop-next-init g c =
     let e = c.begin-run.ensures.run in
-    (refl, rw e, rw e, rw e (c.begin-run.ensures.flow (g.P.Plan.digraph c.args.plan.now)))
+    let same = c.far_from-far.ensures.same in
+    (refl, rw e, rw e, rw same c.far_from-far.ensures.far, rw e (c.begin-run.ensures.flow (g.P.Plan.digraph c.far_from-far.new.plan)))
 
 pub loop-next-smaller : goal.loop-next-smaller
 loop-next-smaller g c =
-    let d = g.P.Plan.digraph c.args.plan.now in
+    let d = g.P.Plan.digraph c.far_from-far.new.plan in
     let next = c.in-Continue.next in
     let after = c.in-Continue.ensures.after in
     let more : next.value ≡ c.loop-next.run.value + 1 = ap (λ (r : Searching). r.value) after.0 in
