@@ -2,6 +2,7 @@
 --
 --   inside        a walk of residual steps stays among the nodes
 --   read_nodes    what is read back from the notes are nodes
+--   read_ends     after that no arc leads out of the end
 --   read_adds     pushing along what is read back adds one to the flow
 --   value_most    a flow's value is at most the number of nodes
 use Rattle.std.proofs.Common.{◌≡◌, ℕ, ◌+◌, ◌<◌, ◌≤◌, Bool, true, List, [], ◌∷◌, All, subst, arith}
@@ -14,6 +15,8 @@ use Rattle.flows.proofs.Largest.{residual_ranged}
 use Rattle.flows.proofs.Push.{push_adds_one_lem}
 use Rattle.augment.specs.Trails.{Trail, route_back}
 use Rattle.augment.proofs.Trails.{trail_is}
+use Rattle.connectivity.specs.Runs.{Unleft}
+use Rattle.connectivity.proofs.Ends.{pushed_unleft}
 
 -- A unit leaves s for each node at most.
 pub value_most : (d : Digraph) (s t : ℕ) (f : ℕ → ℕ → Bool) (v : ℕ) → Flow d s t f v → v ≤ d.nodes
@@ -40,6 +43,12 @@ module _ (d : Digraph) (s t : ℕ) (f : ℕ → ℕ → Bool) (v : ℕ) (small :
   -- Nodes are read back.
   pub read_nodes : All (λ x. x < node_limit) (route_back before s t node_limit)
   read_nodes = subst (λ (xs : List ℕ). All (λ x. x < node_limit) xs) read trail_nodes
+
+  -- After a push along them no arc leads out of their end.
+  pub read_ends : Unleft t f → Unleft t (pushed f (route_back before s t node_limit))
+  read_ends ends =
+      subst (λ (xs : List ℕ). Unleft t (pushed f xs)) read
+      (pushed_unleft (residual d f) s t f trail.nodes trail.route.walk trail.route.apart ends)
 
   -- Pushing along them adds one.
   pub read_adds : (s ≡ t → ⊥) → Flow d s t (pushed f (route_back before s t node_limit)) (v + 1)

@@ -1,2 +1,3 @@
 mod Found
 mod Accepted
+mod Ends

@@ -11,7 +11,7 @@ ghost use Rattle.rows.specs.Flow.{carried};
 ghost use Rattle.rows.specs.Marks.{marked};
 ghost use Rattle.plan.specs.Buffers.{in_front};
 ghost use Rattle.search.specs.Goals.{Far};
-ghost use Rattle.connectivity.specs.Runs.{Held, Largest, PushedOn, EndedAt};
+ghost use Rattle.connectivity.specs.Runs.{Unleft, Held, Largest, PushedOn, EndedAt};
 
 use crate::work::Scratch;
 use augment::augment;
@@ -34,6 +34,15 @@ impl RunCount {
     {
         RunCount { begun: 0 }
     }
+}
+
+// Whether every node of a plan is marked.
+fn marks_all<P: CutPlan>(plan: &mut P, marks: &Marks) -> bool
+    ensures all { result ≡ true → (q : ℕ) → q < (P.Plan.digraph plan.old).nodes → marked marks.now q ≡ true }
+    ensures same { plan.new ≡ plan.old }
+{
+    let n = plan.node_count();
+    marks.next_unmarked(0, n).is_none()
 }
 
 // A run that may still grow: its ends, and how many units were pushed.
@@ -60,6 +69,7 @@ impl Searching {
         ensures counted { count.new.begun ≡ count.old.begun + 1 }
         ensures run { result ≡ record { from = from; to = to; value = 0 } }
         ensures flow { (d : Digraph) → Flow d from to (carried flow.new) 0 }
+        ensures ends { Unleft to (carried flow.new) }
     {
         count.begun += 1;
         flow.wipe();
@@ -67,7 +77,7 @@ impl Searching {
     }
 
     // Seeks a residual path from end to end, and notes it at its nodes if there is one. The answer is a
-    // flag, since the path stands in the lent notes.
+    // flag, since the path stands in the lent notes. Where every node is closed to the end, there is none.
     fn seek<P: CutPlan>(
         &self,
         plan: &mut P,
@@ -77,10 +87,15 @@ impl Searching {
     ) -> bool
         requires asked { P.CutPlan.asked plan.old self.now.from self.now.to }
         requires far { Far (P.Plan.digraph plan.old) self.now.to (marked far.now) }
+        requires ends { Unleft self.now.to (carried flow.now) }
         ensures same { plan.new ≡ plan.old }
         ensures noted { result ≡ true → Trail (residual (P.Plan.digraph plan.old) (carried flow.now)) self.now.from self.now.to scratch.new.notes.before.now }
         ensures stuck { result ≡ false → residual_side (P.Plan.digraph plan.old) (carried flow.now) self.now.from self.now.to ≡ false }
     {
+        let closed = closed_to(flow, far, self.to);
+        if marks_all(plan, &closed) {
+            return false;
+        }
         search(
             plan,
             flow,
@@ -89,7 +104,7 @@ impl Searching {
             &mut scratch.steps,
             self.from,
             Some(self.to),
-            &closed_to(flow, far, self.to),
+            &closed,
         )
     }
 
@@ -107,6 +122,7 @@ impl Searching {
         requires flow { Held (P.Plan.digraph plan.old) self.now flow.old }
         ensures same { plan.new ≡ plan.old }
         ensures pushed { result ≡ true → Flow (P.Plan.digraph plan.old) self.now.from self.now.to (carried flow.new) (self.now.value + 1) }
+        ensures ends { result ≡ true → Unleft self.now.to (carried flow.new) }
         ensures kept { result ≡ false → flow.new ≡ flow.old }
         ensures stuck { result ≡ false → residual_side (P.Plan.digraph plan.old) (carried flow.old) self.now.from self.now.to ≡ false }
     {

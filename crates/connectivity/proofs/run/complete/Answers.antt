@@ -11,7 +11,9 @@ pub loop-next-init : goal.loop-next-init
 loop-next-init g c =
     let e = c.begin-run.ensures.run in
     let same = c.far_from-far.ensures.same in
-    (refl, rw e, rw e, rw same c.far_from-far.ensures.far, rw e (c.begin-run.ensures.flow (g.P.Plan.digraph c.far_from-far.new.plan)))
+    let d = g.P.Plan.digraph c.far_from-far.new.plan in
+    let held : Held d c.begin-run.result c.begin-run.new.flow = record { flow = rw e (c.begin-run.ensures.flow d); ends = rw e c.begin-run.ensures.ends } in
+    (refl, rw e, rw e, rw same c.far_from-far.ensures.far, held)
 
 pub loop-next-smaller : goal.loop-next-smaller
 loop-next-smaller g c =
@@ -20,4 +22,4 @@ loop-next-smaller g c =
     let after = c.in-Continue.ensures.after in
     let more : next.value ≡ c.loop-next.run.value + 1 = ap (λ (r : Searching). r.value) after.0 in
     let held : Held d next c.push.new.flow = rw (← c.loop-next.invariant.0) after.1 in
-    omega (arith, more, value_most d next.from next.to (carried c.push.new.flow) next.value held)
+    omega (arith, more, value_most d next.from next.to (carried c.push.new.flow) next.value held.flow)

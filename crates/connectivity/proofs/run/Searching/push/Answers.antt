@@ -15,5 +15,5 @@ overflow_add-result g c =
 pub returns-else-found-clause-value : goal.returns-else-found-clause-value
 returns-else-found-clause-value g c =
     let run = c.args.self in
-    sym (g.met.P.CutPlan.told c.args.plan.now run.from run.to (carried c.args.flow.now) run.value c.requires.asked c.requires.flow
+    sym (g.met.P.CutPlan.told c.args.plan.now run.from run.to (carried c.args.flow.now) run.value c.requires.asked c.requires.flow.flow
     (c.if-found.ensures.stuck refl)).0
