@@ -1,5 +1,5 @@
 -- Bits of x & y and of a word with every bit turned.
-use Rattle.std.proofs.Common.{◌≡◌, ℕ, zero, suc, ◌-◌, ◌*◌, ◌/◌, ◌%◌, ◌^◌, ◌<◌, not, ◌&&◌, eqb, sym, refl, ap, ◌∙◌, ⊎_elim, pow-suc, arith}
+use Rattle.std.proofs.Common.{◌≡◌, ℕ, zero, suc, ◌-◌, ◌*◌, ◌/◌, ◌%◌, ◌^◌, ◌<◌, Bool, not, ◌&&◌, eqb, sym, refl, ap, ◌∙◌, ⊎_elim, pow-suc, arith}
 use lib.Bits.{bit_and, and_shr, and_mod}
 use Rattle.std.proofs.lemmas.Bool.{cases_eq}
 use Rattle.bits.specs.Bits.{bit}
@@ -52,3 +52,7 @@ bit_turned (suc d) x (suc j) h l =
 -- A bit of a word of 64 bits with every bit turned.
 pub word_turned : (x j : ℕ) → x < 2 ^ 64 → j < 64 → bit ((2 ^ 64 - 1) - x) j ≡ not (bit x j)
 word_turned x j = bit_turned 64 x j
+
+-- The bits of x that are not set in y.
+pub word_without : (x y : ℕ) → y < 2 ^ 64 → (j : ℕ) → j < 64 → bit (bit_and x ((2 ^ 64 - 1) - y)) j ≡ (bit x j && not (bit y j))
+word_without x y h j l = bit-and x ((2 ^ 64 - 1) - y) j ∙ ap (λ (b : Bool). bit x j && b) (word_turned y j h l)

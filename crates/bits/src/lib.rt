@@ -2,7 +2,7 @@
 // map and the sets of a search are made of such words.
 #![tactic(auto)]
 
-ghost use Rattle.std.specs.Prelude.{◌≡◌, ℕ, ◌-◌, ◌*◌, ◌/◌, ◌<◌, not, ◌||◌, length, drop, if◌then◌else◌, ◌==◌};
+ghost use Rattle.std.specs.Prelude.{◌≡◌, ℕ, ◌-◌, ◌*◌, ◌/◌, ◌<◌, ◌≤◌, not, ◌&&◌, ◌||◌, length, drop, if◌then◌else◌, ◌==◌};
 ghost use Rattle.graph.specs.Graph.{first};
 ghost use Rattle.bits.specs.Bits.{bit, has, Written};
 
@@ -67,6 +67,14 @@ pub fn set(words: &mut [u64], k: u16, on: bool)
     words[at] = word_with(words[at], k % WORD_BITS, on);
 }
 
+// The numbers of a word that are not in another.
+#[tactic(auto, using(crate::proofs::Turns::word_without))]
+fn word_outside(word: u64, other: u64) -> u64
+    ensures { (j : ℕ) → j < 64 → bit result j ≡ (bit word j && not (bit other j)) }
+{
+    word & !other
+}
+
 // Puts the numbers of another set in, which has as many words.
 pub fn join(words: &mut [u64], others: &[u64])
     requires { length words.old ≡ length others.now }
@@ -87,6 +95,24 @@ pub fn next(words: &[u64], on: bool, w: u16) -> Option<u16>
     let mut k = w % WORD_BITS; // where to begin in a word: at w, and then at its first bit
     for i in start..words.len() as u16 {
         let word = word_for(words[i as usize], on);
+        if let Some(j) = word_next(word, k) {
+            return Some(WORD_BITS * i + j);
+        }
+        k = 0;
+    }
+    None
+}
+
+// The lowest number from w up that is in the set and not in another one, which has as many words or
+// more.
+pub fn next_outside(words: &[u64], others: &[u64], w: u16) -> Option<u16>
+    requires { (length words.now < 1024) × (length words.now ≤ length others.now) }
+    ensures { result ≡ first (λ k. has words.now 0 k && not (has others.now 0 k)) w (64 * length words.now - w) }
+{
+    let start = w / WORD_BITS;
+    let mut k = w % WORD_BITS; // as in `next`
+    for i in start..words.len() as u16 {
+        let word = word_outside(words[i as usize], others[i as usize]);
         if let Some(j) = word_next(word, k) {
             return Some(WORD_BITS * i + j);
         }

@@ -1,5 +1,5 @@
 -- What a row counts and finds: of the part that is lent, of the grid, and of the graph that it means.
-use Rattle.std.proofs.Common.{◌≡◌, ℕ, ◌+◌, ◌-◌, ◌*◌, ◌<◌, ◌≤◌, false, List, length, None, sym, ap, ◌∙◌, arith}
+use Rattle.std.proofs.Common.{◌≡◌, ℕ, ◌+◌, ◌-◌, ◌*◌, ◌<◌, ◌≤◌, Bool, false, List, length, None, sym, ap, ◌∙◌, arith}
 use Rattle.std.specs.List.{between}
 use Rattle.std.proofs.lemmas.Bool.{lt-ltb}
 use Rattle.std.proofs.lemmas.List.Edits.{length-between}
@@ -9,6 +9,9 @@ use Rattle.graph.proofs.Firsts.{first_ext, first_short, first_missing}
 use Rattle.graph.proofs.Edges.{joined_outside}
 use Rattle.bits.specs.Bits.{has}
 use Rattle.bits.proofs.Parts.{part_has}
+use Rattle.rows.specs.Marks.{fresh}
+use Rattle.rows.proofs.Fresh.{fresh_ext, fresh_off}
+use Rattle.store.specs.Outside.{next_outside}
 use Rattle.grid.specs.Rows.{set_bits, grid}
 use Rattle.grid.proofs.Tallies.{row_count}
 
@@ -27,6 +30,15 @@ module _ (words row : List ℕ) (u : ℕ) (room : 4 * u + 4 ≤ length words) (p
   part_first w =
       let four : 64 * length row - w ≡ 256 - w = omega (arith, ap length part, length-between words (4 * u) (4 * u + 4) room) in
       ap (first (has row 0) w) four ∙ first_ext (has row 0) (has words (4 * u)) w (256 - w) (λ k a l. row_has k (omega arith))
+
+-- The lowest of them that is not in a set.
+module _ (words row : List ℕ) (u : ℕ) (room : 4 * u + 4 ≤ length words) (part : row ≡ between (4 * u) (4 * u + 4) words) (m : ℕ → Bool) (w : ℕ) where
+  pub part_outside : first (fresh m (has row 0)) w (64 * length row - w) ≡ first (fresh m (has words (4 * u))) w (256 - w)
+  part_outside =
+      let four : 64 * length row - w ≡ 256 - w = omega (arith, ap length part, length-between words (4 * u) (4 * u + 4) room) in
+      ap (first (fresh m (has row 0)) w) four
+      ∙ first_ext (fresh m (has row 0)) (fresh m (has words (4 * u))) w (256 - w)
+      (λ k a l. fresh_ext m (has row 0) (has words (4 * u)) k (row_has words row u room part k (omega arith)))
 
 -- The row of a vertex, where the words mean a simple graph.
 module _ (n : ℕ) (words : List ℕ) (simple : Simple (grid n words)) (u : ℕ) (below : u < n) where
@@ -50,6 +62,13 @@ module _ (n : ℕ) (words : List ℕ) (simple : Simple (grid n words)) (u : ℕ)
       first_ext (has words (4 * u)) ((grid n words).joined u) w (256 - w) (λ k a l. row_says k (omega arith))
       ∙ first_short ((grid n words).joined u) w n 256 (omega (arith, simple.small)) (λ k a b. none_past k a)
 
+  -- And so with those that are not in a set.
+  pub grid_outside : (m : ℕ → Bool) (w : ℕ) → first (fresh m (has words (4 * u))) w (256 - w) ≡ next_outside (grid n words) m u w
+  grid_outside m w =
+      let joined = (grid n words).joined u in
+      first_ext (fresh m (has words (4 * u))) (fresh m joined) w (256 - w) (λ k a l. fresh_ext m (has words (4 * u)) joined k (row_says k (omega arith)))
+      ∙ first_short (fresh m joined) w n 256 (omega (arith, simple.small)) (λ k a b. fresh_off m joined k (none_past k a))
+
 -- What is no vertex has no neighbours.
 pub outside_degree : (g : Graph) → Simple g → (u : ℕ) → g.order ≤ u → 0 ≡ degree g u
 outside_degree g s u h = sym (count_none (g.joined u) g.order (λ k l. joined_outside g s u k (λ p. omega (arith, p.0))))
@@ -57,3 +76,8 @@ outside_degree g s u h = sym (count_none (g.joined u) g.order (λ k l. joined_ou
 -- So none is found.
 pub outside_next : (g : Graph) → Simple g → (u w : ℕ) → g.order ≤ u → None ≡ next g u w
 outside_next g s u w h = first_missing (g.joined u) w g.order (λ k a b. joined_outside g s u k (λ p. omega (arith, p.0)))
+
+-- Nor is one that is not in a set.
+pub outside_none : (g : Graph) → Simple g → (m : ℕ → Bool) (u w : ℕ) → g.order ≤ u → None ≡ next_outside g m u w
+outside_none g s m u w h =
+    first_missing (fresh m (g.joined u)) w g.order (λ k a b. fresh_off m (g.joined u) k (joined_outside g s u k (λ p. omega (arith, p.0))))

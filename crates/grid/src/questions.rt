@@ -3,10 +3,13 @@
 ghost use Rattle.std.specs.Prelude.{◌≡◌, ◌+◌, ◌*◌, ◌<◌, slice_range};
 ghost use Rattle.graph.specs.Graph.{degree, next};
 ghost use Rattle.grid.specs.Meaning.{graph_of};
+ghost use Rattle.rows.specs.Marks.{marked};
+ghost use Rattle.store.specs.Outside.{next_outside};
 
 use crate::Grid;
 use crate::rows::row_count;
 use model::Vertex;
+use rows::marks::Marks;
 use store::Map;
 
 impl<'a> Grid<'a> {
@@ -45,6 +48,16 @@ impl<'a> Grid<'a> {
     {
         bits::next(self.row(u), true, w)
     }
+
+    // The lowest neighbour of a vertex that is w or more and not in a set: the lowest such bit of its
+    // row, word by word.
+    fn lowest_outside(&mut self, u: Vertex, w: Vertex, set: &Marks) -> Option<Vertex>
+        requires { u < self.old.n }
+        ensures value { result ≡ next_outside (graph_of self.old) (marked set.now) u w }
+        ensures same { self.new ≡ self.old }
+    {
+        set.next_outside(self.row(u), w)
+    }
 }
 
 impl<'a> Map for Grid<'a> {
@@ -70,5 +83,14 @@ impl<'a> Map for Grid<'a> {
     // Nor has it a lowest one.
     fn next(&mut self, u: Vertex, w: Vertex) -> Option<Vertex> {
         if u < self.n { self.lowest(u, w) } else { None }
+    }
+
+    // Nor one that is not in a set.
+    fn next_outside(&mut self, u: Vertex, w: Vertex, set: &Marks) -> Option<Vertex> {
+        if u < self.n {
+            self.lowest_outside(u, w, set)
+        } else {
+            None
+        }
     }
 }

@@ -7,7 +7,7 @@ ghost use Rattle.std.specs.Prelude.{◌≡◌, ℕ, ◌<◌, ◌≤◌, Bool, fa
 ghost use Rattle.flows.specs.Flow.{Digraph, Sound, Flow, residual_side};
 ghost use Rattle.rows.specs.Marks.{marked};
 ghost use Rattle.graph.specs.Graph.{node_limit};
-ghost use Rattle.plan.specs.Plans.{next_arc};
+ghost use Rattle.plan.specs.Plans.{next_arc, arc_outside};
 ghost use Rattle.plan.specs.Buffers.{in_front};
 
 mod buffer;
@@ -46,6 +46,22 @@ pub trait Plan {
     fn next_arc(&mut self, p: u16, w: u16) -> Option<u16>
         ensures value { result ≡ next_arc (digraph self.old) p w }
         ensures same { self.new ≡ self.old };
+
+    // The lowest node that is w or more, is not in a set, and to which an arc leads from p. A plan need
+    // not write it: this asks `next_arc`, and leaps over what is in the set.
+    fn arc_outside(&mut self, p: u16, w: u16, set: &Marks) -> Option<u16>
+        ensures value { result ≡ arc_outside (digraph self.old) (marked set.now) p w }
+        ensures same { self.new ≡ self.old }
+    {
+        let mut from = w;
+        while let Some(q) = self.next_arc(p, from) {
+            if !set.has(q) {
+                return Some(q);
+            }
+            from = set.next_unmarked(q + 1, 448)?;
+        }
+        None
+    }
 }
 
 // A plan that tells its cuts: the value and the nearest cut of a pair of nodes, by definition, and

@@ -136,6 +136,11 @@ impl<M: Map> Map for Line<M> {
     fn next(&mut self, u: Vertex, w: Vertex) -> Option<Vertex> {
         self.map.next(u, w)
     }
+
+    // The lowest of them that is not in a set.
+    fn next_outside(&mut self, u: Vertex, w: Vertex, set: &Marks) -> Option<Vertex> {
+        self.map.next_outside(u, w, set)
+    }
 }
 
 // As a plan, the nodes are the vertices.
@@ -161,6 +166,11 @@ impl<M: Map> Plan for Line<M> {
     // The lowest neighbour of p that is w or more.
     fn next_arc(&mut self, p: u16, w: u16) -> Option<u16> {
         self.map.next(p, w)
+    }
+
+    // The lowest of them that is not in a set.
+    fn arc_outside(&mut self, p: u16, w: u16, set: &Marks) -> Option<u16> {
+        self.map.next_outside(p, w, set)
     }
 }
 

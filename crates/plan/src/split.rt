@@ -6,7 +6,7 @@ ghost use Rattle.graph.specs.Graph.{order_limit};
 ghost use Rattle.cuts.specs.Cuts.{vertex_value, nearest_vertex_cut};
 ghost use Rattle.cuts.specs.Pairs.{is_end, split, crossing_vertices};
 ghost use Rattle.plan.specs.Plans.{split_is_sound, split_small};
-ghost use Rattle.plan.specs.Nodes.{edges_out, exit_from};
+ghost use Rattle.plan.specs.Nodes.{edges_out, exit_from, exit_outside};
 ghost use Rattle.plan.specs.Tells.{Ends, vertex_two, vertex_counted, vertex_told};
 ghost use Rattle.plan.specs.Writing.{placed, vertex_at};
 ghost use Rattle.rows.specs.Marks.{marked};
@@ -100,6 +100,14 @@ fn exit_from(n: u16, p: u16, w: u16) -> Option<u16>
     (p < n && w <= n + p).then(|| n + p)
 }
 
+// The same exit, unless it is in a set.
+fn exit_outside(n: u16, p: u16, w: u16, set: &Marks) -> Option<u16>
+    requires { n ≤ order_limit }
+    ensures { result ≡ exit_outside n (marked set.now) p w }
+{
+    (p < n && w <= n + p && !set.has(n + p)).then(|| n + p)
+}
+
 // As a plan, there is an entry and an exit for each vertex.
 impl<M: Map> Plan for Split<M> {
     type Item = Vertex;
@@ -132,6 +140,16 @@ impl<M: Map> Plan for Split<M> {
         match self.edges_out(n, p) {
             Some(u) => self.map.next(u, w),
             None => exit_from(n, p, w),
+        }
+    }
+
+    // The lowest of them that is not in a set.
+    #[tactic(auto, using(crate::proofs::Arcs::outside_by_exit))]
+    fn arc_outside(&mut self, p: u16, w: u16, set: &Marks) -> Option<u16> {
+        let n = self.map.order();
+        match self.edges_out(n, p) {
+            Some(u) => self.map.next_outside(u, w, set),
+            None => exit_outside(n, p, w, set),
         }
     }
 }

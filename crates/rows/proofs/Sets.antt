@@ -4,6 +4,7 @@ use Rattle.std.specs.Prelude.{MatchOption}
 use Rattle.std.specs.Bool.{then_some}
 use mathlib.Core.Path.{fun_ext}
 use lib.ListN.{length-replicate}
+use Rattle.std.proofs.Math.Bool.{and_comm}
 use Rattle.std.proofs.lemmas.Bool.{cases_lt, lt-ltb, le-ltb, eqb-true, and_left, and_right, true≢false}
 use Rattle.std.proofs.lemmas.List.{get_or_past, get_or-replicate}
 use Rattle.graph.specs.Graph.{first}
@@ -11,9 +12,9 @@ use Rattle.graph.proofs.Firsts.{first_ext, first_found, first_missing, first_som
 use Rattle.bits.specs.Bits.{bit, has}
 use Rattle.bits.proofs.Bits.{zero_bit}
 use Rattle.bits.proofs.Parts.{has_past}
-use Rattle.bits.proofs.Scans.{looked_for}
+use Rattle.bits.proofs.Scans.{looked_for, outside}
 use Rattle.bits.proofs.Writes.{or_mask}
-use Rattle.rows.specs.Marks.{marked}
+use Rattle.rows.specs.Marks.{marked, fresh}
 use Rattle.rows.specs.declared.marks.Marks.{Marks}
 
 -- Any place of a list of zeros, or past it, has 0.
@@ -65,6 +66,13 @@ marked_has m k size =
     (λ h. rw (lt-ltb k 448 h))
     (λ h. has_past m.words 0 k (omega arith) ∙ sym (and_left (ltb k 448) (has m.words 0 k) (le-ltb k 448 h)))
     (cases_lt k 448)
+
+-- Looking for what is in a set of words and not in the seven finds what is not marked.
+pub outside_found : (m : Marks) (words : List ℕ) (w e : ℕ) → length m.words ≡ 7 → first (outside words m.words) w e ≡ first (fresh (marked m) (has words 0)) w e
+unfolding fresh
+outside_found m words w e size =
+    first_ext (outside words m.words) (λ k. not (marked m k) && has words 0 k) w e
+    (λ k _ _. and_comm (has words 0 k) (not (has m.words 0 k)) ∙ ap (λ (b : Bool). not b && has words 0 k) (marked_has m k size))
 
 -- Looking for a bit that is set, or clear, finds the numbers that are marked, or not.
 pub nodes_found : (m : Marks) (on : Bool) (w : ℕ) → length m.words ≡ 7

@@ -1,8 +1,8 @@
 // The nodes that a search has seen: a set of numbers below 448, in seven words.
-ghost use Rattle.std.specs.Prelude.{◌≡◌, ℕ, ◌-◌, ◌<◌, ◌≤◌, Bool, false, not, ◌||◌, length, if◌then◌else◌, ◌==◌};
+ghost use Rattle.std.specs.Prelude.{◌≡◌, ℕ, ◌-◌, ◌*◌, ◌<◌, ◌≤◌, Bool, false, not, ◌||◌, length, if◌then◌else◌, ◌==◌};
 ghost use Rattle.graph.specs.Graph.{first};
 ghost use Rattle.bits.specs.Bits.{has};
-ghost use Rattle.rows.specs.Marks.{marked};
+ghost use Rattle.rows.specs.Marks.{marked, fresh};
 
 // How many numbers the set can hold. A search has at most 402 nodes.
 const MOST: u16 = 448;
@@ -54,6 +54,14 @@ impl Marks {
         ensures { result ≡ marked self.now p }
     {
         bits::has(&self.words, p)
+    }
+
+    // The lowest number from w up that is in a set in words and is not marked.
+    pub fn next_outside(&self, words: &[u64], w: u16) -> Option<u16>
+        requires { length words.now ≤ 7 }
+        ensures { result ≡ first (fresh (marked self.now) (has words.now 0)) w (64 * length words.now - w) }
+    {
+        bits::next_outside(words, &self.words, w)
     }
 
     // The lowest node from w up that is marked, or that is not.

@@ -12,8 +12,10 @@ use Rattle.graph.specs.Graph.{first}
 use Rattle.graph.proofs.Firsts.{Found, first_some, first_all}
 use Rattle.flows.specs.Flow.{Digraph, residual}
 use Rattle.augment.specs.Trails.{Trail}
+use Rattle.rows.proofs.Fresh as Fresh
 use Rattle.search.specs.Goals.{way_on, goal_from, goal_noted}
-use Rattle.search.specs.Steps.{along, fresh}
+use Rattle.rows.specs.Marks.{fresh}
+use Rattle.search.specs.Steps.{along}
 use Rattle.search.proofs.States.{State, Nobody, unmarked}
 use Rattle.search.proofs.Turns.{Turn, taken, recounted, along_all}
 
@@ -37,18 +39,14 @@ module _ (test : ℕ → Bool) (w : ℕ) {n n' : ℕ} (bound : n ≡ n') where
 -- A plan is as it was.
 module _ {X : Type 0} (D : X → Digraph) {a b : X} (same : a ≡ b) where
   -- What its arcs say.
-  module _ (f : ℕ → ℕ → Bool) (m : ℕ → Bool) (p w : ℕ) {n : ℕ} (nodes : n ≡ (D b).nodes) where
-    -- The fresh nodes to which an arc with room leads from p are those that were.
-    asked : first (fresh m (along (D a) f p)) w (n - w) ≡ first (fresh m (along (D b) f p)) w (n - w)
-    asked = ap (λ (x : X). first (fresh m (along (D x) f p)) w (n - w)) same
-
-    -- The next of them.
-    pub along_found : {q : ℕ} → Some q ≡ first (fresh m (along (D a) f p)) w (n - w) → Found (fresh m (along (D b) f p)) w (D b).nodes q
-    along_found h = found_at (fresh m (along (D b) f p)) w nodes (h ∙ asked)
+  module _ (f : ℕ → ℕ → Bool) (m : ℕ → Bool) (p w : ℕ) where
+    -- The next fresh node to which an arc with room leads from p is the one that was.
+    pub along_found : {q : ℕ} → Some q ≡ first (fresh m (along (D a) f p)) w ((D a).nodes - w) → Found (fresh m (along (D b) f p)) w (D b).nodes q
+    along_found = Fresh.found_in (λ (x : X). fresh m (along (D x) f p)) (λ x. (D x).nodes) w same
 
     -- There is no more.
-    pub along_none : None ≡ first (fresh m (along (D a) f p)) w (n - w) → (k : ℕ) → w ≤ k → k < (D b).nodes → fresh m (along (D b) f p) k ≡ false
-    along_none h = none_at (fresh m (along (D b) f p)) w nodes (h ∙ asked)
+    pub along_none : None ≡ first (fresh m (along (D a) f p)) w ((D a).nodes - w) → (k : ℕ) → w ≤ k → k < (D b).nodes → fresh m (along (D b) f p) k ≡ false
+    along_none = Fresh.none_in (λ (x : X). fresh m (along (D x) f p)) (λ x. (D x).nodes) w same
 
   -- The goal is found with q.
   module _ (f : ℕ → ℕ → Bool) (closed : ℕ → Bool) (goal : Option ℕ) (q : ℕ) where
@@ -75,6 +73,6 @@ module _ {X : Type 0} (D : X → Digraph) {f : ℕ → ℕ → Bool} {s : ℕ} {
       let here : State (D b) f s stop Nobody (p ∷ map node ys) m before = rw (same, e) (rw items at st) in recounted (taken here) nodes
 
   -- No more arc with room leads from p to a node that is not marked.
-  pub arcs_done : {a b c : X} {queue : List ℕ} {v e : ℕ} → a ≡ b → c ≡ a → n ≡ (D b).nodes → None ≡ first (fresh m (along (D a) f p)) v (n - v)
+  pub arcs_done : {a b c : X} {queue : List ℕ} {v e : ℕ} → a ≡ b → c ≡ a → n ≡ (D b).nodes → None ≡ first (fresh m (along (D a) f p)) v ((D a).nodes - v)
       → Turn (D b) f s stop p v 0 queue m before e → Turn (D c) f s stop p n 0 queue m before (length queue + unmarked m n)
-  arcs_done {v = v} ab ca nodes h t = rw (ca, ab) (recounted (along_all t nodes (along_none D ab f m p v nodes h)) nodes)
+  arcs_done {v = v} ab ca nodes h t = rw (ca, ab) (recounted (along_all t nodes (along_none D ab f m p v h)) nodes)

@@ -11,9 +11,11 @@ use Rattle.graph.proofs.Firsts.{Found}
 use Rattle.flows.specs.Flow.{Digraph, residual}
 use Rattle.flows.proofs.Lists.{among_head, among_tail, among_cases}
 use Rattle.search.specs.Goals.{Closed, way_on, leaves_off, goal_from, goal_noted}
-use Rattle.search.specs.Steps.{along, back, fresh}
+use Rattle.rows.specs.Marks.{fresh}
+use Rattle.search.specs.Steps.{along, back}
 use Rattle.augment.specs.Trails.{Trail}
-use Rattle.search.proofs.Fresh.{fresh_parts, fresh_done, along_step}
+use Rattle.rows.proofs.Fresh.{fresh_parts, fresh_done}
+use Rattle.search.proofs.Fresh.{along_step}
 use Rattle.search.proofs.States.{State, Done, Nobody, Entry, unmarked, grown, new_marked, entered, fewer, roomy}
 use Rattle.search.proofs.Finds.{found_with}
 

@@ -9,7 +9,8 @@
 use Rattle.std.specs.Prelude.{◌≡◌, ℕ, ◌<◌, Bool, false, cond, not, ◌||◌, Some, None, Option, List, ◌==◌, slice_set, is_some}
 use Rattle.graph.specs.Graph.{first}
 use Rattle.flows.specs.Flow.{Digraph}
-use Rattle.search.specs.Steps.{along, fresh}
+use Rattle.rows.specs.Marks.{fresh}
+use Rattle.search.specs.Steps.{along}
 
 -- Of the nodes, those from which no arc leads to t.
 abbrev pub Far : Digraph → ℕ → (ℕ → Bool) → Type 0

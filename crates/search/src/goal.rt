@@ -45,16 +45,14 @@ fn leads_on<P: Plan>(
     closed: &Marks,
     t: u16,
     q: u16,
-    n: u16,
 ) -> bool
-    requires nodes { n ≡ (P.Plan.digraph plan.old).nodes }
-    requires within { t < node_limit }
+    requires { t < node_limit }
     ensures value { result ≡ is_some (way_on (P.Plan.digraph plan.old) (carried flow.now) (marked closed.now) q) }
     ensures notes { notes.new.before.now ≡ on_noted (way_on (P.Plan.digraph plan.old) (carried flow.now) (marked closed.now) q) q t notes.old.before.now }
     ensures same { plan.new ≡ plan.old }
     ensures same_reference { notes.new.before.ghost_name ≡ notes.old.before.ghost_name }
 {
-    let Some(r) = next_along(plan, flow, closed, q, 0, n) else {
+    let Some(r) = next_along(plan, flow, closed, q, 0) else {
         return false;
     };
     notes.note(r, q);
@@ -71,10 +69,8 @@ pub(crate) fn finds_goal<P: Plan>(
     closed: &Marks,
     goal: Option<u16>,
     q: u16,
-    n: u16,
 ) -> bool
-    requires nodes { n ≡ (P.Plan.digraph plan.old).nodes }
-    requires within { IfSome goal (λ t. t < node_limit) }
+    requires { IfSome goal (λ t. t < node_limit) }
     ensures value { result ≡ goal_from goal (marked closed.now) (way_on (P.Plan.digraph plan.old) (carried flow.now) (marked closed.now) q) q }
     ensures notes { notes.new.before.now ≡ goal_noted goal (marked closed.now) (way_on (P.Plan.digraph plan.old) (carried flow.now) (marked closed.now) q) q notes.old.before.now }
     ensures same { plan.new ≡ plan.old }
@@ -90,5 +86,5 @@ pub(crate) fn finds_goal<P: Plan>(
         notes.note(t, q);
         return true;
     }
-    leads_on(plan, flow, notes, closed, t, q, n)
+    leads_on(plan, flow, notes, closed, t, q)
 }

@@ -55,7 +55,7 @@ pub fn search<P: Plan, E: Waiting>(
     marks.clear();
     let mut queue = Ring::new(slots.cells);
     enter(marks, &mut queue, from, from, true);
-    if finds_goal(plan, flow, notes, closed, goal, from, n) {
+    if finds_goal(plan, flow, notes, closed, goal, from) {
         return true;
     }
     let mut found = false;
@@ -64,10 +64,10 @@ pub fn search<P: Plan, E: Waiting>(
         // This loop and the next are two, since each asks another question. They leap from node to
         // node, which a `for` would not. Their labels are their names in the proofs.
         let mut ahead = 0;
-        'along: while let Some(q) = next_along(plan, flow, marks, p, ahead, n) {
+        'along: while let Some(q) = next_along(plan, flow, marks, p, ahead) {
             notes.note(q, p);
             enter(marks, &mut queue, q, p, true);
-            if finds_goal(plan, flow, notes, closed, goal, q, n) {
+            if finds_goal(plan, flow, notes, closed, goal, q) {
                 found = true;
                 break 'search;
             }
@@ -77,7 +77,7 @@ pub fn search<P: Plan, E: Waiting>(
         'back: while let Some(q) = next_back(flow, marks, p, behind, n) {
             notes.note(q, p);
             enter(marks, &mut queue, q, p, false);
-            if finds_goal(plan, flow, notes, closed, goal, q, n) {
+            if finds_goal(plan, flow, notes, closed, goal, q) {
                 found = true;
                 break 'search;
             }

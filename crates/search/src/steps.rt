@@ -4,8 +4,8 @@
 ghost use Rattle.std.specs.Prelude.{◌≡◌, ◌+◌, ◌-◌, ◌<◌, ◌≤◌, not};
 ghost use Rattle.graph.specs.Graph.{first};
 ghost use Rattle.rows.specs.Flow.{carried};
-ghost use Rattle.rows.specs.Marks.{marked};
-ghost use Rattle.search.specs.Steps.{along, back, fresh};
+ghost use Rattle.rows.specs.Marks.{marked, fresh};
+ghost use Rattle.search.specs.Steps.{along, back};
 
 use plan::Plan;
 use rows::flow::Arcs;
@@ -26,30 +26,24 @@ fn unmarked_above(marks: &Marks, q: u16, n: u16) -> Option<u16>
     marks.next_unmarked(q + 1, n)
 }
 
-// The lowest node from w up that is not marked and to which an arc with room leads from p. Where
-// an arc leads to a marked node, the marked nodes above it are leapt over. The number of nodes is
-// passed, so that it is asked for once a search.
+// The lowest node from w up that is not marked and to which an arc with room leads from p. The plan
+// passes over the marked nodes.
 pub(crate) fn next_along<P: Plan>(
     plan: &mut P,
     flow: &Arcs<'_>,
     marks: &Marks,
     p: u16,
     w: u16,
-    n: u16,
 ) -> Option<u16>
-    requires nodes { n ≡ (P.Plan.digraph plan.old).nodes }
-    ensures value { result ≡ first (fresh (marked marks.now) (along (P.Plan.digraph plan.old) (carried flow.now) p)) w (n - w) }
+    ensures value { result ≡ first (fresh (marked marks.now) (along (P.Plan.digraph plan.old) (carried flow.now) p)) w ((P.Plan.digraph plan.old).nodes - w) }
     ensures same { plan.new ≡ plan.old }
 {
     let mut v = w;
-    while let Some(q) = plan.next_arc(p, v) {
-        if marks.has(q) {
-            v = unmarked_above(marks, q, n)?;
-        } else if has_room(flow, p, q) {
+    while let Some(q) = plan.arc_outside(p, v, marks) {
+        if has_room(flow, p, q) {
             return Some(q);
-        } else {
-            v = q + 1;
         }
+        v = q + 1;
     }
     None
 }

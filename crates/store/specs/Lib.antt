@@ -1,2 +1,3 @@
 pub mod Change
 pub mod Ends
+pub mod Outside

@@ -9,8 +9,11 @@ ghost use Rattle.model.specs.Table.{reply, reply_on};
 ghost use Rattle.model.specs.declared.call.Call.TheVariants.{Make, Join, Part};
 ghost use Rattle.store.specs.Change.{after_join, after_part};
 ghost use Rattle.store.specs.Ends.{ends_reply};
+ghost use Rattle.store.specs.Outside.{next_outside};
+ghost use Rattle.rows.specs.Marks.{marked};
 
 use model::{Refusal, Vertex};
+use rows::marks::Marks;
 
 // Refuses u and v unless they are two vertices of a map of n vertices. Every edit asks this
 // first.
@@ -54,6 +57,23 @@ pub trait Map {
     fn next(&mut self, u: Vertex, w: Vertex) -> Option<Vertex>
         ensures value { result ≡ next (graph self.old) u w }
         ensures same { self.new ≡ self.old };
+
+    // The lowest neighbour of u that is w or more and is not in a set. A store need not write it: this
+    // asks `next`, and leaps over what is in the set. One that has its neighbours as a set in words
+    // answers by words.
+    fn next_outside(&mut self, u: Vertex, w: Vertex, set: &Marks) -> Option<Vertex>
+        ensures value { result ≡ next_outside (graph self.old) (marked set.now) u w }
+        ensures same { self.new ≡ self.old }
+    {
+        let mut from = w;
+        while let Some(v) = self.next(u, from) {
+            if !set.has(v) {
+                return Some(v);
+            }
+            from = set.next_unmarked(v + 1, 448)?;
+        }
+        None
+    }
 }
 
 // A store whose map can be edited, with a fixed capacity in edges. A refused edit leaves the

@@ -63,6 +63,23 @@ impl<S: Editable> Map for Strike<S> {
         }
         None
     }
+
+    // The lowest neighbour of u that is w or more and not in a set: the store's, past the struck ones.
+    fn next_outside(
+        &mut self,
+        u: Vertex,
+        w: Vertex,
+        set: &rows::marks::Marks,
+    ) -> Option<Vertex> {
+        let mut from = w;
+        while let Some(v) = self.store.next_outside(u, from, set) {
+            if !self.marks.has(u, v) {
+                return Some(v);
+            }
+            from = v + 1;
+        }
+        None
+    }
 }
 
 impl<S> Strike<S> {

@@ -3,8 +3,8 @@ use Rattle.std.proofs.lemmas.List.{length-map}
 use Rattle.std.proofs.lemmas.Bool.{or_left, eqb-true}
 use Rattle.graph.proofs.Firsts.{Found}
 use Rattle.rows.specs.Flow.{carried}
-use Rattle.rows.specs.Marks.{marked}
-use Rattle.search.specs.Steps.{along, back, fresh}
+use Rattle.rows.specs.Marks.{marked, fresh}
+use Rattle.search.specs.Steps.{along, back}
 use Rattle.search.specs.Goals.{Closed, leaves_off}
 use Rattle.search.proofs.States.{State, Nobody, nowhere, unmarked, begun, ended, missed}
 use Rattle.search.proofs.Finds.{goal_missed, no_goal, passed_by, found_on}
@@ -42,7 +42,7 @@ turn_ahead g c =
 next_ahead : (g : given.Over) (c : In-Some-next_along g)
     → Found (fresh (marked c.along.marks) (along (g.P.Plan.digraph c.search.plan) (carried c.args.flow.now) c.node-p.result))
     c.along.ahead (g.P.Plan.digraph c.search.plan).nodes c.in-Some-next_along.q
-next_ahead g c = along_found g.P.Plan.digraph c.along.invariant.0 _ _ _ _ c.search.invariant.2 c.in-Some-next_along.ensures.value
+next_ahead g c = along_found g.P.Plan.digraph c.along.invariant.0 _ _ _ _ c.in-Some-next_along.ensures.value
 
 -- There is room to note the node before it.
 wide_ahead : (g : given.Over) (c : In-Some-next_along g) → c.in-Some-next_along.q < length c.along.notes.before.now

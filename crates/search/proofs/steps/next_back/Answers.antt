@@ -1,6 +1,6 @@
 use Rattle.std.proofs.Common.{sym, ◌∙◌, arith}
 use Rattle.graph.proofs.Firsts.{first_some, first_all}
-use Rattle.search.proofs.Fresh.{hit, past, none, leap, leap_none}
+use Rattle.rows.proofs.Fresh.{hit, past, none, leap, leap_none}
 use Rattle.search.proofs.steps.next_back.Goals as goal
 
 pub returns-then-q-n : goal.returns-then-q-n
@@ -14,7 +14,7 @@ returns-then-not-has c =
 pub returns-in_err-v : goal.returns-in_err-v
 returns-in_err-v c =
     let f = first_some _ _ 448 _ (sym c.in-Some.ensures) in
-    c.from_residual.ensures ∙ leap_none _ _ c.loop-q.invariant (λ k h. h) c.args.n f c.has.ensures c.if-not-has.false c.in_err-v.ensures
+    c.from_residual.ensures ∙ leap_none _ _ c.loop-q.invariant (λ k h. h) f c.has.ensures c.if-not-has.false c.args.n (omega arith) c.in_err-v.ensures
 
 pub loop-q-smaller : goal.loop-q-smaller
 loop-q-smaller c =
@@ -25,7 +25,7 @@ loop-q-smaller c =
 pub loop-q-preserved : goal.loop-q-preserved
 loop-q-preserved c =
     let f = first_some _ _ 448 _ (sym c.in-Some.ensures) in
-    leap _ _ c.loop-q.invariant (λ k h. h) c.args.n f c.has.ensures c.if-not-has.false c.in_ok-v.ensures
+    leap _ _ c.loop-q.invariant (λ k h. h) f c.has.ensures c.if-not-has.false c.args.n c.in_ok-v.ensures
 
 pub returns : goal.returns
 returns c = none _ _ c.loop-q.invariant (λ k h. h) c.requires (first_all _ _ 448 (sym c.in_default.ensures))
