@@ -1,3 +1,4 @@
 pub mod Pushes
 pub mod Backs
 pub mod Trails
+pub mod PushBacks

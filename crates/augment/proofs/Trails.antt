@@ -9,7 +9,7 @@ use Rattle.graph.proofs.Counts.{count_most, count_one}
 use Rattle.flows.specs.Lists.{among}
 use Rattle.flows.specs.Routes.{Walk, Apart}
 use Rattle.flows.proofs.Lists.{any_cons, among_head, among_off}
-use Rattle.augment.specs.Trails.{Noted, walk_back, ReadBack}
+use Rattle.augment.specs.Trails.{Noted, Trail, walk_back, ReadBack}
 use Rattle.augment.proofs.Backs.{back_last, back_next}
 
 -- A list that leads by the notes from t back to s, which is met only at its end.
@@ -72,10 +72,15 @@ counted n (x ∷ xs) a h =
 pub apart_short : (n : ℕ) (xs : List ℕ) → Apart xs → All (λ x. x < n) xs → length xs ≤ n
 apart_short n xs a h = omega (arith, counted n xs a h, count_most (among xs) n)
 
--- The nodes of a trail are those read back.
-pub trail_is : ReadBack
-trail_is r s t before n trail h =
+-- The nodes of a trail, turned round, are those read back from its end.
+pub read_reversed : (r : ℕ → ℕ → Bool) (s t : ℕ) (before : List ℕ) (n : ℕ) (trail : Trail r s t before) → All (λ x. x < n) trail.nodes
+    → reverse trail.nodes ≡ walk_back before s t n
+read_reversed r s t before n trail h =
     let xs = trail.nodes in
     let short = apart_short n xs trail.route.apart h in
     let back = turned r before s t xs trail.route.walk trail.route.apart trail.noted in
-    sym (reverse-reverse xs) ∙ ap reverse (read before s t n (reverse xs) back (rw (length-reverse xs) short))
+    read before s t n (reverse xs) back (rw (length-reverse xs) short)
+
+-- So its nodes are those read back.
+pub trail_is : ReadBack
+trail_is r s t before n trail h = sym (reverse-reverse trail.nodes) ∙ ap reverse (read_reversed r s t before n trail h)

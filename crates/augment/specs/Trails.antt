@@ -5,8 +5,11 @@
 --   walk_back    the nodes from t back to s, read from the notes
 --   route_back   the same nodes from s on to t
 --   ReadBack     a trail is read back from what it noted
+--   pushed_back  a flow pushed along nodes from the last one back
+--   PushedBack   it is the flow pushed along the trail
 use Rattle.std.specs.Prelude.{◌≡◌, ℕ, zero, suc, ◌<◌, Bool, cond, List, [], ◌∷◌, reverse, All, ◌==◌, slice_index}
 use Rattle.flows.specs.Routes.{Route}
+use Rattle.flows.specs.Flow.{stepped, pushed}
 
 -- What is noted at each node is the one before it.
 abbrev pub Noted : List ℕ → List ℕ → Type 0
@@ -34,3 +37,15 @@ abbrev pub ReadBack : Type 0
 ReadBack =
     (r : ℕ → ℕ → Bool) (s t : ℕ) (before : List ℕ) (n : ℕ) (trail : Trail r s t before)
     → All (λ x. x < n) trail.nodes → trail.nodes ≡ route_back before s t n
+
+-- The flow pushed along the nodes back from an end, the last step first.
+unfoldable pub pushed_back : (ℕ → ℕ → Bool) → List ℕ → (ℕ → ℕ → Bool)
+pushed_back f [] = f
+pushed_back f (q ∷ []) = f
+pushed_back f (q ∷ (p ∷ ps)) = pushed_back (stepped f p q) (p ∷ ps)
+
+-- What is pushed back from the end of a trail is what is pushed along it.
+abbrev pub PushedBack : Type 0
+PushedBack =
+    (r : ℕ → ℕ → Bool) (s t : ℕ) (before : List ℕ) (n : ℕ) (trail : Trail r s t before) (f : ℕ → ℕ → Bool)
+    → All (λ x. x < n) trail.nodes → pushed_back f (walk_back before s t n) ≡ pushed f trail.nodes

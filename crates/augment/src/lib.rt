@@ -6,4 +6,4 @@ mod notes;
 mod push;
 
 pub use notes::{Notes, read_back};
-pub use push::augment;
+pub use push::{augment, push_back, pushed_back};

@@ -7,7 +7,7 @@ ghost use Rattle.augment.specs.Trails.{walk_back, route_back, ReadBack};
 use arrayvec::ArrayVec;
 
 // Two nodes for each of 201 vertices. A route has no node twice, so it is no longer.
-const MOST_NODES: usize = 402;
+pub(crate) const MOST_NODES: usize = 402;
 
 // The notes, in lent numbers, one for each node that a search can have: number q is the node from which
 // q was reached.
@@ -37,7 +37,7 @@ impl<'a> Notes<'a> {
     }
 
     // The node noted at x, 0 past the notes.
-    fn noted(&self, x: u16) -> u16
+    pub(crate) fn noted(&self, x: u16) -> u16
         ensures { result ≡ slice_index self.now.before.now x }
     {
         self.before.get(x as usize).copied().unwrap_or(0)
