@@ -41,7 +41,7 @@ leads_on before y x t (z ∷ (v ∷ xs)) w e o = (
 )
 
 -- What holds of each item holds of each item of the list turned round.
-all_reverse : {X : Type 0} (P : X → Type 0) (xs : List X) → All P xs → All P (reverse xs)
+pub all_reverse : {X : Type 0} (P : X → Type 0) (xs : List X) → All P xs → All P (reverse xs)
 all_reverse P xs h k d l =
     let m : k < length xs = rw length-reverse at l in
     rw get_or-reverse (h (length xs - 1 - k) d (omega arith))

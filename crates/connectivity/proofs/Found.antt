@@ -5,7 +5,7 @@
 --   read_ends     after that no arc leads out of the end
 --   read_adds     pushing along what is read back adds one to the flow
 --   value_most    a flow's value is at most the number of nodes
-use Rattle.std.proofs.Common.{◌≡◌, ℕ, ◌+◌, ◌<◌, ◌≤◌, Bool, true, List, [], ◌∷◌, All, subst, arith}
+use Rattle.std.proofs.Common.{◌≡◌, ℕ, ◌+◌, ◌<◌, ◌≤◌, Bool, true, List, [], ◌∷◌, reverse, All, sym, subst, arith}
 use Rattle.graph.specs.Graph.{node_limit}
 use Rattle.std.proofs.lemmas.List.Elements.{All-nil, All-cons}
 use Rattle.graph.proofs.Counts.{count_most}
@@ -13,8 +13,9 @@ use Rattle.flows.specs.Routes.{Walk}
 use Rattle.flows.specs.Flow.{Digraph, Sound, Flow, residual, pushed}
 use Rattle.flows.proofs.Largest.{residual_ranged}
 use Rattle.flows.proofs.Push.{push_adds_one_lem}
-use Rattle.augment.specs.Trails.{Trail, route_back}
-use Rattle.augment.proofs.Trails.{trail_is}
+use Rattle.augment.specs.Trails.{Trail, walk_back, pushed_back}
+use Rattle.augment.proofs.Trails.{read_reversed, all_reverse}
+use Rattle.augment.proofs.PushBacks.{pushed_is_back}
 use Rattle.connectivity.specs.Runs.{Unleft}
 use Rattle.connectivity.proofs.Ends.{pushed_unleft}
 
@@ -36,22 +37,26 @@ module _ (d : Digraph) (s t : ℕ) (f : ℕ → ℕ → Bool) (v : ℕ) (small :
   trail_nodes k z l =
       omega (arith, small, inside (residual d f) d.nodes (λ p q e. (residual_ranged d f sound fl.along p q e).1) s t trail.nodes hs trail.route.walk k z l)
 
-  -- What is read back is the trail.
-  read : trail.nodes ≡ route_back before s t node_limit
-  read = trail_is (residual d f) s t before node_limit trail trail_nodes
+  -- What is read back is the trail turned round.
+  read : reverse trail.nodes ≡ walk_back before s t node_limit
+  read = read_reversed (residual d f) s t before node_limit trail trail_nodes
+
+  -- Pushing back is pushing along the trail.
+  back : pushed_back f (walk_back before s t node_limit) ≡ pushed f trail.nodes
+  back = pushed_is_back (residual d f) s t before node_limit trail f trail_nodes
 
   -- Nodes are read back.
-  pub read_nodes : All (λ x. x < node_limit) (route_back before s t node_limit)
-  read_nodes = subst (λ (xs : List ℕ). All (λ x. x < node_limit) xs) read trail_nodes
+  pub read_nodes : All (λ x. x < node_limit) (walk_back before s t node_limit)
+  read_nodes = subst (λ (xs : List ℕ). All (λ x. x < node_limit) xs) read (all_reverse (λ x. x < node_limit) trail.nodes trail_nodes)
 
   -- After a push along them no arc leads out of their end.
-  pub read_ends : Unleft t f → Unleft t (pushed f (route_back before s t node_limit))
+  pub read_ends : Unleft t f → Unleft t (pushed_back f (walk_back before s t node_limit))
   read_ends ends =
-      subst (λ (xs : List ℕ). Unleft t (pushed f xs)) read
+      subst (λ (h : ℕ → ℕ → Bool). Unleft t h) (sym back)
       (pushed_unleft (residual d f) s t f trail.nodes trail.route.walk trail.route.apart ends)
 
   -- Pushing along them adds one.
-  pub read_adds : (s ≡ t → ⊥) → Flow d s t (pushed f (route_back before s t node_limit)) (v + 1)
+  pub read_adds : (s ≡ t → ⊥) → Flow d s t (pushed_back f (walk_back before s t node_limit)) (v + 1)
   read_adds st =
-      subst (λ (xs : List ℕ). Flow d s t (pushed f xs) (v + 1)) read
+      subst (λ (h : ℕ → ℕ → Bool). Flow d s t h (v + 1)) (sym back)
       (push_adds_one_lem d s t f v trail.nodes sound fl hs st trail.route)

@@ -14,7 +14,7 @@ ghost use Rattle.search.specs.Goals.{Far};
 ghost use Rattle.connectivity.specs.Runs.{Unleft, Held, Largest, PushedOn, EndedAt};
 
 use crate::work::Scratch;
-use augment::augment;
+use augment::push_back;
 use plan::CutPlan;
 use rows::flow::Arcs;
 use rows::marks::Marks;
@@ -129,8 +129,7 @@ impl Searching {
         if !self.seek(plan, flow, far, scratch) {
             return false;
         }
-        let path = scratch.notes.trace(self.from, self.to);
-        augment(flow, path.as_slice());
+        push_back(flow, &scratch.notes, self.from, self.to);
         true
     }
 
