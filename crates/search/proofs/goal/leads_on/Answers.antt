@@ -5,5 +5,5 @@ use Rattle.search.proofs.goal.leads_on.Goals as goal
 -- The open node is a node of the plan.
 pub note-requires : goal.note-requires
 note-requires g c =
-    let f = first_some _ 0 (g.P.Plan.digraph c.args.plan.now).nodes c.in-Some.r (sym c.in-Some.ensures.value) in
+    let f = first_some _ _ (g.P.Plan.digraph c.args.plan.now).nodes c.in-Some.r (sym c.in-Some.ensures.value) in
     omega (arith, f.below, g.P.Plan.small c.args.plan.now)
