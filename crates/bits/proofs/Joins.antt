@@ -30,7 +30,7 @@ joined_all xs ys n j size same =
     (cases_lt (j / 64) n)
 
 -- Word i is put together too.
-module _ (xs ys zs : List ℕ) (i : ℕ) (fits : i < length zs) (so : (j : ℕ) → has zs 0 j ≡ joined_to xs ys i j)  where
+module _ (xs ys zs : List ℕ) (i : ℕ) (fits : i < length zs) (so : (j : ℕ) → has zs 0 j ≡ joined_to xs ys i j) where
   -- The numbers of word i are those of both sets, and the others are as they were.
   pub joined_more : (j : ℕ) → has (set zs i (bit_or (get_or zs i 0) (get_or ys i 0))) 0 j ≡ joined_to xs ys (i + 1) j
   joined_more j =

@@ -34,7 +34,6 @@ says_outside words others i y bits j l = ap₂ (λ (a b : Bool). a && not b) (wo
 -- the words before have none from w up.
 module _ (test : ℕ → Bool) (w i n y s : ℕ) (low : w / 64 ≤ i) (high : i < n) (says : (j : ℕ) → j < 64 → test (64 * i + j) ≡ bit y j) (start : s ≡ w - 64 * i)
     (before : (k : ℕ) → w ≤ k → k < 64 * i → test k ≡ false) where
-
   -- Nothing is found in the words before and in the first e bits of this one.
   seen : (e : ℕ) → e ≤ 64 → ((j : ℕ) → s ≤ j → j < e → bit y j ≡ false) → (k : ℕ) → w ≤ k → k < 64 * i + e → test k ≡ false
   seen e le none k a b =

@@ -65,12 +65,7 @@ impl<S: Editable> Map for Strike<S> {
     }
 
     // The lowest neighbour of u that is w or more and not in a set: the store's, past the struck ones.
-    fn next_outside(
-        &mut self,
-        u: Vertex,
-        w: Vertex,
-        set: &rows::marks::Marks,
-    ) -> Option<Vertex> {
+    fn next_outside(&mut self, u: Vertex, w: Vertex, set: &rows::marks::Marks) -> Option<Vertex> {
         let mut from = w;
         while let Some(v) = self.store.next_outside(u, from, set) {
             if !self.marks.has(u, v) {
