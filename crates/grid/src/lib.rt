@@ -7,9 +7,9 @@ ghost use Rattle.std.specs.Prelude.{◌≡◌, ℕ, ◌*◌, ◌<◌, ◌≤◌,
 ghost use Rattle.graph.specs.Graph.{order_limit};
 ghost use Rattle.grid.specs.Rows.{grid};
 
+mod counts;
 mod editing;
 mod questions;
-mod rows;
 mod words;
 
 // A map of n vertices over the first 4 n of the lent words. The ghost facts say that what the

@@ -7,7 +7,7 @@ ghost use Rattle.rows.specs.Marks.{marked};
 ghost use Rattle.store.specs.Outside.{next_outside};
 
 use crate::Grid;
-use crate::rows::row_count;
+use crate::counts::row_count;
 use model::Vertex;
 use rows::marks::Marks;
 use store::Map;
