@@ -1,4 +1,3 @@
-pub mod Pushes
 pub mod Backs
 pub mod Trails
 pub mod PushBacks

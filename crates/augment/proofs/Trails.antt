@@ -1,7 +1,7 @@
 -- A trail is read back from what it noted.
 use Rattle.std.proofs.Common.{◌≡◌, ℕ, zero, suc, ◌-◌, ◌<◌, ◌≤◌, Bool, false, eqb, List, [], ◌∷◌, ◌++◌, reverse, length, get_or, All, sym, refl, ap, ◌∙◌, arith}
 use mathlib.Core.List.{reverse-cons}
-use Rattle.std.proofs.lemmas.List.{reverse-reverse, length-reverse, get_or-reverse}
+use Rattle.std.proofs.lemmas.List.{length-reverse, get_or-reverse}
 use Rattle.std.proofs.lemmas.List.Elements.{All-nil, All-cons, All-head, All-tail}
 use Rattle.std.proofs.lemmas.Bool.{ne_eqb}
 use Rattle.graph.specs.Graph.{count}
@@ -9,7 +9,7 @@ use Rattle.graph.proofs.Counts.{count_most, count_one}
 use Rattle.flows.specs.Lists.{among}
 use Rattle.flows.specs.Routes.{Walk, Apart}
 use Rattle.flows.proofs.Lists.{any_cons, among_head, among_off}
-use Rattle.augment.specs.Trails.{Noted, Trail, walk_back, ReadBack}
+use Rattle.augment.specs.Trails.{Noted, Trail, walk_back}
 use Rattle.augment.proofs.Backs.{back_last, back_next}
 
 -- A list that leads by the notes from t back to s, which is met only at its end.
@@ -80,7 +80,3 @@ read_reversed r s t before n trail h =
     let short = apart_short n xs trail.route.apart h in
     let back = turned r before s t xs trail.route.walk trail.route.apart trail.noted in
     read before s t n (reverse xs) back (rw (length-reverse xs) short)
-
--- So its nodes are those read back.
-pub trail_is : ReadBack
-trail_is r s t before n trail h = sym (reverse-reverse trail.nodes) ∙ ap reverse (read_reversed r s t before n trail h)

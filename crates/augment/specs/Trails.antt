@@ -3,11 +3,9 @@
 --   Noted        each node of a list but the first has the one before it noted
 --   Trail        a route whose nodes are noted
 --   walk_back    the nodes from t back to s, read from the notes
---   route_back   the same nodes from s on to t
---   ReadBack     a trail is read back from what it noted
 --   pushed_back  a flow pushed along nodes from the last one back
 --   PushedBack   it is the flow pushed along the trail
-use Rattle.std.specs.Prelude.{◌≡◌, ℕ, zero, suc, ◌<◌, Bool, cond, List, [], ◌∷◌, reverse, All, ◌==◌, slice_index}
+use Rattle.std.specs.Prelude.{◌≡◌, ℕ, zero, suc, ◌<◌, Bool, cond, List, [], ◌∷◌, All, ◌==◌, slice_index}
 use Rattle.flows.specs.Routes.{Route}
 use Rattle.flows.specs.Flow.{stepped, pushed}
 
@@ -27,16 +25,6 @@ pub record Trail (r : ℕ → ℕ → Bool) (s t : ℕ) (before : List ℕ) : Ty
 unfoldable pub walk_back : List ℕ → ℕ → ℕ → ℕ → List ℕ
 walk_back before s t zero = []
 walk_back before s t (suc n) = t ∷ cond (t == s) [] (walk_back before s (slice_index before t) n)
-
--- The nodes back, turned round.
-abbrev pub route_back : List ℕ → ℕ → ℕ → ℕ → List ℕ
-route_back before s t n = reverse (walk_back before s t n)
-
--- A trail among the nodes below n is read back from what it noted.
-abbrev pub ReadBack : Type 0
-ReadBack =
-    (r : ℕ → ℕ → Bool) (s t : ℕ) (before : List ℕ) (n : ℕ) (trail : Trail r s t before)
-    → All (λ x. x < n) trail.nodes → trail.nodes ≡ route_back before s t n
 
 -- The flow pushed along the nodes back from an end, the last step first.
 unfoldable pub pushed_back : (ℕ → ℕ → Bool) → List ℕ → (ℕ → ℕ → Bool)

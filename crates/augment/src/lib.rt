@@ -1,9 +1,9 @@
-// What follows a search that found its goal: the route is read back from the nodes that were
-// noted on the way, and one unit more is pushed along it.
+// What follows a search that found its goal: one unit more is pushed along the route that it noted, while
+// the route is read back.
 #![tactic(auto)]
 
 mod notes;
 mod push;
 
-pub use notes::{Notes, read_back};
-pub use push::{augment, push_back, pushed_back};
+pub use notes::Notes;
+pub use push::{push_back, pushed_back};

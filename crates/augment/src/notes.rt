@@ -1,10 +1,7 @@
-// At each node that a search reaches, the node that it came from is noted; the route to a node is
-// read back from the notes.
+// At each node that a search reaches, the node that it came from is noted. Whoever needs the route to a
+// node reads it back from the notes, node by node.
 ghost use Rattle.std.specs.Prelude.{◌≡◌, ◌<◌, ◌≤◌, length, slice_index, slice_set};
 ghost use Rattle.graph.specs.Graph.{node_limit};
-ghost use Rattle.augment.specs.Trails.{walk_back, route_back, ReadBack};
-
-use arrayvec::ArrayVec;
 
 // Two nodes for each of 201 vertices. A route has no node twice, so it is no longer.
 pub(crate) const MOST_NODES: usize = 402;
@@ -42,34 +39,4 @@ impl<'a> Notes<'a> {
     {
         self.before.get(x as usize).copied().unwrap_or(0)
     }
-
-    // The nodes from `to` back to `from`.
-    fn walk_back(&self, from: u16, to: u16) -> ArrayVec<u16, MOST_NODES>
-        ensures { result.items ≡ walk_back self.now.before.now from to node_limit }
-    {
-        let mut path = ArrayVec::new();
-        let mut at = to;
-        for _ in 0..MOST_NODES {
-            path.push(at);
-            if at == from {
-                break;
-            }
-            at = self.noted(at);
-        }
-        path
-    }
-
-    // The route from `from` to `to`.
-    pub fn trace(&self, from: u16, to: u16) -> ArrayVec<u16, MOST_NODES>
-        ensures { result.items ≡ route_back self.now.before.now from to node_limit }
-    {
-        let mut path = self.walk_back(from, to);
-        path.as_mut_slice().reverse();
-        path
-    }
 }
-
-// What a trail noted is enough to read it back.
-pub fn read_back()
-    ensures { ReadBack }
-{}
