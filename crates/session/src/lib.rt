@@ -16,6 +16,7 @@ mod pairs;
 
 use model::{Answer, Call, Refusal, Vertex, is_bad_order};
 use plan::{Line, Split};
+use rows::marks::Marks;
 use store::{Editable, Map};
 use strike::Strike;
 
@@ -48,6 +49,10 @@ impl<S: Editable> Map for Planner<S> {
 
     fn next(&mut self, u: Vertex, w: Vertex) -> Option<Vertex> {
         self.pile.map.next(u, w)
+    }
+
+    fn next_outside(&mut self, u: Vertex, w: Vertex, set: &Marks) -> Option<Vertex> {
+        self.pile.map.next_outside(u, w, set)
     }
 }
 
