@@ -1,9 +1,10 @@
 #!/usr/bin/env python3
-"""Runs the twin and the planner on every map of a folder and prints a table of their times.
+"""Runs the twin and one planner or more on every map of a folder and prints a table of their times.
 
-    bench/measure.py TWIN PLANNER FOLDER
+    bench/measure.py TWIN PLANNER.. FOLDER
 
-The exit status is 1 if the two print different lines for some map.
+With several planners, as before and after a change, they take turns, so that their ratios compare. The exit
+status is 1 if some planner prints another line than the twin for some map.
 """
 import os
 import sys
@@ -14,8 +15,10 @@ from pathlib import Path
 REPETITIONS = 5
 START = "0101\n"
 LEAST = 0.001
-HEAD = "{:<14}{:>9}{:>7}{:>6}{:>10}{:>12}{:>8}"
-ROW = "{:<14}{:>9}{:>7}{:>6}{:>10.2f}{:>12.2f}{:>8.2f}"
+HEAD = "{:<14}{:>9}{:>7}{:>6}{:>10}"
+ROW = "{:<14}{:>9}{:>7}{:>6}{:>10.2f}"
+PLANNER_HEAD = "{:>12}{:>8}".format("planner ms", "ratio")
+PLANNER_ROW = "{:>12.2f}{:>8.2f}"
 
 
 # Runs a program on a file: its processor time in milliseconds, and what it prints.
@@ -59,32 +62,39 @@ def run_count(line):
     return pairs + unjoined
 
 
-# Measures both programs on a map and prints a row: their ratio, and whether they print the same.
+# A program's time for a map alone, without its start.
+def net(time, idle):
+    return max(time - idle, LEAST)
+
+
+# Measures the programs on a map and prints a row: the planners' ratios, and whether all print the same.
 def measure(programs, idle, path):
-    (twin_time, line), (planner_time, other) = best(programs, path)
-    twin_net = max(twin_time - idle[0], LEAST)
-    planner_net = max(planner_time - idle[1], LEAST)
-    ratio = planner_net / twin_net
+    (twin_time, line), *planners = best(programs, path)
+    twin_net = net(twin_time, idle[0])
+    nets = [net(time, start) for (time, _), start in zip(planners, idle[1:])]
+    ratios = [time / twin_net for time in nets]
     n, edges = size(path)
-    print(ROW.format(path.stem, n, edges, run_count(line), twin_net, planner_net, ratio))
-    if line != other:
-        print(f"  they differ: the twin prints {line.strip()}, the planner {other.strip()}")
-    return ratio, line == other
+    columns = "".join(PLANNER_ROW.format(*pair) for pair in zip(nets, ratios))
+    print(ROW.format(path.stem, n, edges, run_count(line), twin_net) + columns)
+    others = [other for _, other in planners if other != line]
+    for other in others:
+        print(f"  they differ: the twin prints {line.strip()}, a planner {other.strip()}")
+    return ratios, not others
 
 
 # Prints the table, and gives the exit status.
-def main(twin, planner, folder):
-    programs = [twin, planner]
+def main(programs, folder):
     idle = starts(programs)
-    print(HEAD.format("map", "vertices", "edges", "runs", "twin ms", "planner ms", "ratio"))
+    print(HEAD.format("map", "vertices", "edges", "runs", "twin ms") + PLANNER_HEAD * len(idle[1:]))
     rows = [measure(programs, idle, path) for path in sorted(folder.glob("*.txt"))]
-    mean = prod(ratio for ratio, _ in rows) ** (1 / len(rows))
-    print(f"{'geometric mean':<58}{mean:>8.2f}")
-    print(f"Taken off for the start of the program: {idle[0]:.2f} and {idle[1]:.2f} ms.")
+    columns = zip(*(ratios for ratios, _ in rows))
+    means = [prod(ratios) ** (1 / len(rows)) for ratios in columns]
+    print(f"{'geometric mean':<46}" + "".join(f"{mean:>20.2f}" for mean in means))
+    print("Taken off for the start of each program, ms: " + ", ".join(f"{time:.2f}" for time in idle))
     return 0 if all(same for _, same in rows) else 1
 
 
 if __name__ == "__main__":
-    if len(sys.argv) != 4:
-        sys.exit("usage: bench/measure.py TWIN PLANNER FOLDER")
-    sys.exit(main(sys.argv[1], sys.argv[2], Path(sys.argv[3])))
+    if len(sys.argv) < 4:
+        sys.exit("usage: bench/measure.py TWIN PLANNER.. FOLDER")
+    sys.exit(main(sys.argv[1:-1], Path(sys.argv[-1])))
