@@ -10,8 +10,9 @@ use rows::flow::Arcs;
 
 // One step from p to q: an arc back is taken out, else the arc is put in.
 fn step(flow: &mut Arcs<'_>, p: u16, q: u16)
-    requires { (p < node_limit) × (q < node_limit) }
+    requires { (p < flow.old.heads) × (q < flow.old.heads) }
     ensures arcs { carried flow.new ≡ stepped (carried flow.old) p q }
+    ensures heads { flow.new.heads ≡ flow.old.heads }
     ensures same_reference { flow.new.words.ghost_name ≡ flow.old.words.ghost_name }
 {
     if flow.carries(q, p) {
@@ -24,8 +25,9 @@ fn step(flow: &mut Arcs<'_>, p: u16, q: u16)
 // Pushes one unit along the route that is noted from `from` to `to`, read back from its end: the last
 // step first.
 pub fn push_back(flow: &mut Arcs<'_>, notes: &Notes<'_>, from: u16, to: u16)
-    requires { All (λ x. x < node_limit) (walk_back notes.now.before.now from to node_limit) }
+    requires { All (λ x. x < flow.old.heads) (walk_back notes.now.before.now from to node_limit) }
     ensures arcs { carried flow.new ≡ pushed_back (carried flow.old) (walk_back notes.now.before.now from to node_limit) }
+    ensures heads { flow.new.heads ≡ flow.old.heads }
     ensures same_reference { flow.new.words.ghost_name ≡ flow.old.words.ghost_name }
 {
     let mut q = to;

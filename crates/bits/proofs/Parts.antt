@@ -1,5 +1,6 @@
--- Bits past the words, and rows: the words in parts of s each, of which one is lent and put back.
-use Rattle.std.proofs.Common.{◌≡◌, ℕ, ◌+◌, ◌-◌, ◌*◌, ◌/◌, ◌%◌, ◌<◌, ◌≤◌, Bool, false, cond, eqb, ◌⊎◌, List, length, get_or, drop, sym, ap, ◌∙◌, ⊎_elim, inl, inr, zero-add, arith}
+-- Bits past the words, and of words that are wiped; rows: the words in parts of s each, of which one is lent
+-- and put back.
+use Rattle.std.proofs.Common.{◌≡◌, ℕ, ◌+◌, ◌-◌, ◌*◌, ◌/◌, ◌%◌, ◌<◌, ◌≤◌, Bool, false, cond, eqb, ◌⊎◌, List, ◌++◌, length, get_or, drop, replicate, sym, ap, ◌∙◌, ⊎_elim, inl, inr, zero-add, arith}
 use Rattle.std.proofs.Math.Nat.{mul-le-mul_left}
 use borrow.Rule.Slice.PartMut.{put_mid}
 use Rattle.std.proofs.lemmas.Bool.{cases_eq, cases_lt, ne_eqb, eq-eqb, cond-true, cond-false}
@@ -13,6 +14,14 @@ use Rattle.bits.proofs.Bits.{zero_bit}
 -- What is past the words is not set.
 pub has_past : (words : List ℕ) (base k : ℕ) → length words ≤ base + k / 64 → has words base k ≡ false
 has_past words base k h = ap (λ (x : ℕ). bit x (k % 64)) (get_or_past words (base + k / 64) 0 h) ∙ zero_bit (k % 64)
+
+-- The first n words are wiped: they are 0.
+wiped_word : (n i : ℕ) (words : List ℕ) → i < n → get_or (replicate n 0 ++ drop n words) i 0 ≡ 0
+wiped_word n i words h = grind (arith, places)
+
+-- So no bit of them is set.
+pub wiped_has : (n : ℕ) (words : List ℕ) (base k : ℕ) → base + k / 64 < n → has (replicate n 0 ++ drop n words) base k ≡ false
+wiped_has n words base k h = ap (λ (x : ℕ). bit x (k % 64)) (wiped_word n (base + k / 64) words h) ∙ zero_bit (k % 64)
 
 -- A part that is lent has the bits that the words have there.
 pub part_has : (words : List ℕ) (a b k : ℕ) → a + k / 64 < b → has (between a b words) 0 k ≡ has words a k

@@ -15,7 +15,7 @@ mod line;
 mod split;
 
 pub use line::Line;
-use rows::marks::Marks;
+use rows::marks::{Marks, SET_LIMIT};
 pub use split::Split;
 
 // A digraph that answers questions. Every answer is read off the digraph alone, for every
@@ -58,7 +58,7 @@ pub trait Plan {
             if !set.has(q) {
                 return Some(q);
             }
-            from = set.next_unmarked(q + 1, 448)?;
+            from = set.next_unmarked(q + 1, SET_LIMIT)?;
         }
         None
     }

@@ -7,6 +7,7 @@ ghost use Rattle.plan.specs.Pairs.{Two};
 ghost use Rattle.plan.specs.Plans.{both_ways_sound, both_ways_small};
 ghost use Rattle.plan.specs.Tells.{edge_two, edge_counted, edge_told};
 ghost use Rattle.plan.specs.Writing.{placed, apart, next_other, next_across, crossing_row};
+ghost use Rattle.rows.specs.Layout.{set_limit};
 ghost use Rattle.rows.specs.Marks.{marked};
 
 use crate::buffer::Filling;
@@ -33,7 +34,7 @@ impl<M> Line<M> {
 
 // The lowest node from w up and below n whose mark differs from that of u.
 fn next_other(marks: &Marks, u: Vertex, w: Vertex, n: u16) -> Option<Vertex>
-    requires { n ≤ 448 }
+    requires { n ≤ set_limit }
     ensures { result ≡ next_other (marked marks.now) u w n }
 {
     if marks.has(u) {

@@ -1,15 +1,16 @@
--- A set of arcs between nodes in words, by head: row p is the eight words from 8 p, and bit q
--- of its first seven words says whether the set has the arc from q to p.
+-- A set of arcs among nodes in words, by head: row p is the p-th part of so many words, and bit q of
+-- its first words says whether the set has the arc from q to p.
 --
 --   carried                 whether the set has the arc from q to p
 --   with_arc, without_arc   a set of arcs with one arc more, and without one
 use Rattle.std.specs.Prelude.{ℕ, ◌*◌, Bool, not, ◌&&◌, ◌||◌, ◌==◌, nat_lt}
 use Rattle.bits.specs.Bits.{has}
+use Rattle.rows.specs.Layout.{set_limit, row_words}
 use Rattle.rows.specs.declared.flow.Arcs.{Arcs}
 
--- No tail is 448 or more, and no head 512 or more.
+-- No tail is past the limit of a row, and no head past those of the set.
 unfoldable pub carried : Arcs → ℕ → ℕ → Bool
-carried a q p = (nat_lt q 448 && nat_lt p 512) && has a.words.now (8 * p) q
+carried a q p = (nat_lt q set_limit && nat_lt p a.heads) && has a.words.now (row_words * p) q
 
 -- The arcs of f and the arc from q to p.
 abbrev pub with_arc : (ℕ → ℕ → Bool) → ℕ → ℕ → (ℕ → ℕ → Bool)

@@ -1,13 +1,17 @@
-// The arcs that a flow goes along, in lent words: a row of eight words for each of 512 heads, and in
-// its first seven a bit for each tail. The eighth word of a row is not used. The methods have a file of
-// their own, since the definitions that their clauses cite name the struct.
+// The arcs that a flow goes along, in lent words: a row of words for each head, and in its first ones a
+// bit for each tail. The last word of a row is not used. The methods have a file of their own, since
+// the definitions that their clauses cite name the struct.
 ghost use Rattle.std.specs.Prelude.{◌≤◌, length};
+ghost use Rattle.rows.specs.Layout.{set_limit, arc_words};
 
 mod by_head;
 
-// A set of arcs over lent words, enough for all rows.
+// A set of arcs over lent words, enough for all rows. Its heads are the numbers below `heads`: no other
+// row is written or read.
 #[derive(Drop)]
 pub struct Arcs<'a> {
     words: &'a mut [u64],
-    ghost fits: { 4096 ≤ length words.now },
+    heads: u16,
+    ghost fits: { arc_words ≤ length words.now },
+    ghost few: { heads ≤ set_limit },
 }

@@ -31,7 +31,6 @@ pub fn far_from<P: Plan>(plan: &mut P, t: u16) -> Marks
 // The nodes from which no arc with room leads to t: those from which no arc does, and those from
 // which the flow goes to t already.
 pub fn closed_to(flow: &Arcs<'_>, far: &Marks, t: u16) -> Marks
-    requires { t < node_limit }
     ensures { (d : Digraph) → Far d t (marked far.now) → Closed d (carried flow.now) t (marked result) }
 {
     flow.with_tails(t, far)

@@ -1,5 +1,6 @@
 // The queue of the nodes that wait to be looked at. A node joins it once, as it is marked.
 ghost use Rattle.std.specs.Prelude.{◌≡◌, ◌<◌, ◌||◌, [], ◌∷◌, ◌++◌, map, length, ◌==◌};
+ghost use Rattle.rows.specs.Layout.{set_limit};
 ghost use Rattle.rows.specs.Marks.{marked};
 
 use crate::waiting::Waiting;
@@ -23,7 +24,7 @@ pub(crate) fn enter<E: Waiting>(
     p: u16,
     forwards: bool,
 )
-    requires { (q < 448) × (length queue.old.items < queue.old.room) }
+    requires { (q < set_limit) × (length queue.old.items < queue.old.room) }
     ensures marks { marked marks.new ≡ (λ k. marked marks.old k || k == q) }
     ensures nodes { map E.Waiting.node queue.new.items ≡ map E.Waiting.node queue.old.items ++ (q ∷ []) }
     ensures room { queue.new.room ≡ queue.old.room }

@@ -4,6 +4,7 @@
 ghost use Rattle.std.specs.Prelude.{◌≡◌, ◌+◌, ◌-◌, ◌<◌, ◌≤◌, not};
 ghost use Rattle.graph.specs.Graph.{first};
 ghost use Rattle.rows.specs.Flow.{carried};
+ghost use Rattle.rows.specs.Layout.{set_limit};
 ghost use Rattle.rows.specs.Marks.{marked, fresh};
 ghost use Rattle.search.specs.Steps.{along, back};
 
@@ -20,7 +21,7 @@ pub(crate) fn has_room(flow: &Arcs<'_>, p: u16, q: u16) -> bool
 
 // The lowest node above q and below n that is not marked.
 fn unmarked_above(marks: &Marks, q: u16, n: u16) -> Option<u16>
-    requires { (q < n) × (n ≤ 448) }
+    requires { (q < n) × (n ≤ set_limit) }
     ensures { result ≡ first (λ k. not (marked marks.now k)) (q + 1) (n - (q + 1)) }
 {
     marks.next_unmarked(q + 1, n)
@@ -51,7 +52,7 @@ pub(crate) fn next_along<P: Plan>(
 // The lowest node from w up and below n that is not marked and from which the flow leads to p.
 // Where the flow leads from a marked node, the marked nodes above it are leapt over.
 pub(crate) fn next_back(flow: &Arcs<'_>, marks: &Marks, p: u16, w: u16, n: u16) -> Option<u16>
-    requires { n ≤ 448 }
+    requires { n ≤ set_limit }
     ensures { result ≡ first (fresh (marked marks.now) (back (carried flow.now) p)) w (n - w) }
 {
     let mut v = w;

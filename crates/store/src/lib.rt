@@ -13,7 +13,7 @@ ghost use Rattle.store.specs.Outside.{next_outside};
 ghost use Rattle.rows.specs.Marks.{marked};
 
 use model::{Refusal, Vertex};
-use rows::marks::Marks;
+use rows::marks::{Marks, SET_LIMIT};
 
 // Refuses u and v unless they are two vertices of a map of n vertices. Every edit asks this
 // first.
@@ -70,7 +70,7 @@ pub trait Map {
             if !set.has(v) {
                 return Some(v);
             }
-            from = set.next_unmarked(v + 1, 448)?;
+            from = set.next_unmarked(v + 1, SET_LIMIT)?;
         }
         None
     }

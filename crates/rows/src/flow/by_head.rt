@@ -4,46 +4,46 @@ ghost use Rattle.std.specs.Prelude.{◌≡◌, ℕ, ◌-◌, ◌<◌, ◌≤◌,
 ghost use Rattle.graph.specs.Graph.{first};
 ghost use Rattle.bits.specs.Bits.{has};
 ghost use Rattle.rows.specs.Flow.{carried, with_arc, without_arc};
+ghost use Rattle.rows.specs.Layout.{set_words, set_limit, arc_words};
 ghost use Rattle.rows.specs.Marks.{marked};
 
 use super::Arcs;
-use crate::marks::Marks;
+use crate::marks::{Marks, SET_WORDS};
 
-// How many words a row takes, how many of them have bits, and how many rows there are at most.
+// How many words a row takes.
 const ROW_WORDS: usize = 8;
 
-const USED_WORDS: usize = 7;
-
-const ROWS: u16 = 512;
-
 impl<'a> Arcs<'a> {
-    // The arcs that the words say.
+    // A set with no heads yet, and so with no arcs.
     pub fn over(words: &'a mut [u64]) -> Arcs<'a>
-        requires { 4096 ≤ length words.old }
+        requires { arc_words ≤ length words.old }
         ensures words { result.words.now ≡ words.old }
+        ensures heads { result.heads ≡ 0 }
         ensures same_reference { result.words.ghost_name ≡ words.entry.ghost_name }
     {
-        Arcs { words }
+        Arcs { words, heads: 0 }
     }
 
-    // Takes every arc away.
-    #[tactic(auto, using(crate::proofs::Heads::none_carried))]
-    pub fn wipe(&mut self)
+    // Takes every arc away, and gives the set so many heads. Only their rows are written.
+    pub fn wipe(&mut self, heads: u16)
+        requires { heads ≤ set_limit }
         ensures arcs { carried self.new ≡ (λ x y. false) }
+        ensures heads { self.new.heads ≡ heads }
         ensures same_reference { self.new.words.ghost_name ≡ self.old.words.ghost_name }
     {
-        self.words.fill(0);
+        self.words[..ROW_WORDS * heads as usize].fill(0);
+        self.heads = heads;
     }
 
     // The used words of the row of head p.
     #[tactic(auto, using(crate::proofs::Heads::row_says))]
     fn row(&self, p: u16) -> &[u64]
-        requires { p < 512 }
+        requires { p < self.now.heads }
         ensures bits { (q : ℕ) → has result.now 0 q ≡ carried self.now q p }
-        ensures size { length result.now ≡ 7 }
+        ensures size { length result.now ≡ set_words }
     {
         let at = ROW_WORDS * p as usize;
-        &self.words[at..at + USED_WORDS]
+        &self.words[at..at + SET_WORDS]
     }
 
     // Whether the flow goes along the arc from q to p.
@@ -51,24 +51,26 @@ impl<'a> Arcs<'a> {
     pub fn carries(&self, q: u16, p: u16) -> bool
         ensures { result ≡ carried self.now q p }
     {
-        p < ROWS && bits::has(self.row(p), q)
+        p < self.heads && bits::has(self.row(p), q)
     }
 
     // The nodes of a set and, besides them, the tails of the arcs to p.
     pub fn with_tails(&self, p: u16, set: &Marks) -> Marks
-        requires { p < 512 }
         ensures { (q : ℕ) → marked result q ≡ (marked set.now q || carried self.now q p) }
     {
         let mut both = *set;
-        both.join(self.row(p));
+        if p < self.heads {
+            both.join(self.row(p));
+        }
         both
     }
 
     // Puts the arc from q to p in, or takes it out.
     fn write(&mut self, q: u16, p: u16, on: bool)
-        requires { (q < 448) × (p < 512) }
+        requires { (q < set_limit) × (p < self.old.heads) }
         ensures put { on ≡ true → carried self.new ≡ with_arc (carried self.old) q p }
         ensures taken { on ≡ false → carried self.new ≡ without_arc (carried self.old) q p }
+        ensures heads { self.new.heads ≡ self.old.heads }
         ensures same_reference { self.new.words.ghost_name ≡ self.old.words.ghost_name }
     {
         let at = ROW_WORDS * p as usize;
@@ -77,8 +79,9 @@ impl<'a> Arcs<'a> {
 
     // Puts the arc from q to p in. Two names, as a set has insert and remove.
     pub fn put(&mut self, q: u16, p: u16)
-        requires { (q < 448) × (p < 512) }
+        requires { (q < set_limit) × (p < self.old.heads) }
         ensures arcs { carried self.new ≡ with_arc (carried self.old) q p }
+        ensures heads { self.new.heads ≡ self.old.heads }
         ensures same_reference { self.new.words.ghost_name ≡ self.old.words.ghost_name }
     {
         self.write(q, p, true);
@@ -86,27 +89,28 @@ impl<'a> Arcs<'a> {
 
     // Takes the arc from q to p out.
     pub fn take(&mut self, q: u16, p: u16)
-        requires { (q < 448) × (p < 512) }
+        requires { (q < set_limit) × (p < self.old.heads) }
         ensures arcs { carried self.new ≡ without_arc (carried self.old) q p }
+        ensures heads { self.new.heads ≡ self.old.heads }
         ensures same_reference { self.new.words.ghost_name ≡ self.old.words.ghost_name }
     {
         self.write(q, p, false);
     }
 
-    // The lowest tail from w up of an arc to p, which is a head that may have arcs.
+    // The lowest tail from w up of an arc to p, a head of the set.
     fn tail_in_row(&self, p: u16, w: u16) -> Option<u16>
-        requires { p < 512 }
-        ensures { result ≡ first (λ q. carried self.now q p) w (448 - w) }
+        requires { p < self.now.heads }
+        ensures { result ≡ first (λ q. carried self.now q p) w (set_limit - w) }
     {
         bits::next(self.row(p), true, w)
     }
 
     // The lowest tail from w up of an arc to p. An `if` and no `then_some`, since a row is only there
-    // for a head below the limit.
+    // for a head of the set.
     pub fn next_tail(&self, p: u16, w: u16) -> Option<u16>
-        ensures { result ≡ first (λ q. carried self.now q p) w (448 - w) }
+        ensures { result ≡ first (λ q. carried self.now q p) w (set_limit - w) }
     {
-        if p < ROWS {
+        if p < self.heads {
             self.tail_in_row(p, w)
         } else {
             None

@@ -1,5 +1,6 @@
 use Rattle.std.proofs.Common.{sym, ◌∙◌, arith}
 use Rattle.graph.proofs.Firsts.{Found, first_some}
+use Rattle.rows.specs.Layout.{set_limit}
 use Rattle.rows.specs.Marks.{marked}
 use Rattle.rows.proofs.Fresh.{fresh_marked, hit, none, leap, leap_none, found_in, none_in}
 use Rattle.plan.proofs.Plan.arc_outside.Given as given
@@ -24,7 +25,7 @@ pub returns-in_err-from-clause-value : goal.returns-in_err-from-clause-value
 returns-in_err-from-clause-value g c =
     let f = near g (goal.at.returns-in_err-from-clause-value g c).In-Some in
     c.from_residual.ensures
-    ∙ leap_none _ _ c.loop-q.invariant.1 (λ k h. h) f c.has.ensures c.if-not-has.false 448 (omega (arith, g.Self.Plan.small c.args.self.now)) c.in_err-from.ensures
+    ∙ leap_none _ _ c.loop-q.invariant.1 (λ k h. h) f c.has.ensures c.if-not-has.false set_limit (omega (arith, g.Self.Plan.small c.args.self.now)) c.in_err-from.ensures
 
 pub loop-q-smaller : goal.loop-q-smaller
 loop-q-smaller g c =
@@ -35,7 +36,7 @@ loop-q-smaller g c =
 pub loop-q-preserved : goal.loop-q-preserved
 loop-q-preserved g c =
     let f = near g (goal.at.loop-q-preserved g c).In-Some in
-    (c.in-Some.ensures.same ∙ c.loop-q.invariant.0, leap _ _ c.loop-q.invariant.1 (λ k h. h) f c.has.ensures c.if-not-has.false 448 c.in_ok-from.ensures)
+    (c.in-Some.ensures.same ∙ c.loop-q.invariant.0, leap _ _ c.loop-q.invariant.1 (λ k h. h) f c.has.ensures c.if-not-has.false set_limit c.in_ok-from.ensures)
 
 pub returns-clause-value : goal.returns-clause-value
 returns-clause-value g c =

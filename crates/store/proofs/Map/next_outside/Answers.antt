@@ -1,6 +1,7 @@
 use Rattle.std.proofs.Common.{ℕ, Bool, sym, ◌∙◌, arith}
 use Rattle.graph.specs.Graph.{Graph}
 use Rattle.graph.proofs.Firsts.{Found, first_some}
+use Rattle.rows.specs.Layout.{set_limit}
 use Rattle.rows.specs.Marks.{marked}
 use Rattle.rows.proofs.Fresh.{fresh_marked, hit, none, leap, leap_none, found_in, none_in}
 use Rattle.store.proofs.Map.next_outside.Given as given
@@ -25,7 +26,7 @@ pub returns-in_err-from-clause-value : goal.returns-in_err-from-clause-value
 returns-in_err-from-clause-value g c =
     let f = near g (goal.at.returns-in_err-from-clause-value g c).In-Some in
     c.from_residual.ensures
-    ∙ leap_none _ _ c.loop-v.invariant.1 (λ k h. h) f c.has.ensures c.if-not-has.false 448 (omega (arith, (g.Self.Map.simple c.args.self.now).small)) c.in_err-from.ensures
+    ∙ leap_none _ _ c.loop-v.invariant.1 (λ k h. h) f c.has.ensures c.if-not-has.false set_limit (omega (arith, (g.Self.Map.simple c.args.self.now).small)) c.in_err-from.ensures
 
 pub loop-v-smaller : goal.loop-v-smaller
 loop-v-smaller g c =
@@ -36,7 +37,7 @@ loop-v-smaller g c =
 pub loop-v-preserved : goal.loop-v-preserved
 loop-v-preserved g c =
     let f = near g (goal.at.loop-v-preserved g c).In-Some in
-    (c.in-Some.ensures.same ∙ c.loop-v.invariant.0, leap _ _ c.loop-v.invariant.1 (λ k h. h) f c.has.ensures c.if-not-has.false 448 c.in_ok-from.ensures)
+    (c.in-Some.ensures.same ∙ c.loop-v.invariant.0, leap _ _ c.loop-v.invariant.1 (λ k h. h) f c.has.ensures c.if-not-has.false set_limit c.in_ok-from.ensures)
 
 pub returns-clause-value : goal.returns-clause-value
 returns-clause-value g c =

@@ -1,0 +1,19 @@
+-- The layout of the two kinds of sets.
+--
+--   set_words   how many words a set of nodes has
+--   set_limit   the numbers below it can be in the set: a bit for each
+--   row_words   how many words a row of a set of arcs takes; its first have the row's set of tails
+--   arc_words   how many words have room for a row of every head
+use Rattle.std.specs.Prelude.{ℕ, ◌*◌}
+
+abbrev pub set_words : ℕ
+set_words = 7
+
+abbrev pub set_limit : ℕ
+set_limit = 448
+
+abbrev pub row_words : ℕ
+row_words = 8
+
+abbrev pub arc_words : ℕ
+arc_words = row_words * set_limit
