@@ -1,22 +1,22 @@
--- The flow of a run ends at the run's end: no arc leads out of it, and where no arc with room leads to
--- it either, no residual path does.
+-- The flow of a run goes from end to end: no arc leads to its first end, and none out of the other. Where no
+-- arc with room leads to that one either, no residual path does.
 --
 --   none_open       where none below n is the first not marked, all are marked
 --   cut_off         the end is not reached
---   pushed_unleft   after a push along a route to the end no arc leads out of it
-use Rattle.std.proofs.Common.{◌≡◌, ℕ, ◌-◌, ◌<◌, Bool, true, false, not, ◌&&◌, ◌||◌, eqb, List, [], ◌∷◌, Some, None, Option, sym, refl, ap, ◌∙◌, ⊎_elim, arith}
+--   pushed_unleft, pushed_unentered   after a push along a route none leads out of its end, or to its beginning
+use Rattle.std.proofs.Common.{◌≡◌, ℕ, ◌-◌, ◌<◌, Bool, true, false, not, ◌&&◌, eqb, List, [], ◌∷◌, Some, None, Option, sym, refl, ap, ◌∙◌, ⊎_elim, arith}
 use Rattle.std.specs.Option.{is_none}
-use Rattle.std.proofs.lemmas.Bool.{both_ways, cases_Bool, or_cases, or_from, and_left, ne_eqb, not-true, not-false}
+use Rattle.std.proofs.lemmas.Bool.{both_ways, cases_Bool, or_cases, or_from, and_left, and_right, ne_eqb, not-true, not-false}
 use Rattle.graph.specs.Graph.{first}
 use Rattle.graph.proofs.Firsts.{first_all}
 use Rattle.flows.specs.Lists.{among}
 use Rattle.flows.specs.Routes.{Walk, Apart}
 use Rattle.flows.specs.Flow.{Digraph, residual, residual_side, stepped, pushed}
-use Rattle.flows.proofs.Lists.{among_head, among_tail, never_true}
+use Rattle.flows.proofs.Lists.{among_head, among_tail, among_off, never_true}
 use Rattle.flows.proofs.Reached.{reached_each}
 use Rattle.search.specs.Goals.{Closed}
 use Rattle.search.specs.Steps.{along}
-use Rattle.connectivity.specs.Runs.{Unleft}
+use Rattle.connectivity.specs.Runs.{Unleft, Unentered}
 
 -- Where the lowest number below n that is not in a set is none, all are in it.
 pub none_open : (set : ℕ → Bool) (n : ℕ) (lowest : Option ℕ) → lowest ≡ first (λ k. not (set k)) 0 (n - 0) → is_none lowest ≡ true → (q : ℕ) → q < n
@@ -55,18 +55,34 @@ end_among r a b [] w = absurd w
 end_among r a b (x ∷ []) w = rw (sym w.1) (among_head x [])
 end_among r a b (x ∷ (y ∷ ys)) w = among_tail x (y ∷ ys) b (end_among r y b (y ∷ ys) w.2)
 
--- A step from another node lets no arc out of t.
-stepped_unleft : (f : ℕ → ℕ → Bool) (t x y : ℕ) → (t ≡ x → ⊥) → Unleft t f → Unleft t (stepped f x y)
-stepped_unleft f t x y apart ends q =
+-- A step puts no other arc in than its own.
+stepped_off : (f : ℕ → ℕ → Bool) (x y p q : ℕ) → (eqb p x && eqb q y) ≡ false → f p q ≡ false → stepped f x y p q ≡ false
+stepped_off f x y p q other off =
     ⊎_elim
-    (λ (h : f y x ≡ true). rw h (and_left (f t q) _ (ends q)))
-    (λ (h : f y x ≡ false). rw h (or_from (f t q) (eqb t x && eqb q y) (ends q) (and_left (eqb t x) (eqb q y) (ne_eqb t x apart))))
+    (λ (h : f y x ≡ true). rw h (and_left (f p q) _ off))
+    (λ (h : f y x ≡ false). rw h (or_from (f p q) (eqb p x && eqb q y) off other))
     (cases_Bool (f y x))
 
--- Nor does a push along a route to t.
+-- After a push along a route to t no arc leads out of t.
 pub pushed_unleft : (r : ℕ → ℕ → Bool) (a t : ℕ) (f : ℕ → ℕ → Bool) (xs : List ℕ) → Walk r a t xs → Apart xs → Unleft t f → Unleft t (pushed f xs)
 pushed_unleft r a t f [] w o ends = absurd w
 pushed_unleft r a t f (x ∷ []) w o ends = rw pushed_one ends
 pushed_unleft r a t f (x ∷ (y ∷ ys)) w o ends =
     let apart : t ≡ x → ⊥ = λ e. both_ways (among (y ∷ ys) x) o.0 (ap (among (y ∷ ys)) (sym e) ∙ end_among r y t (y ∷ ys) w.2) in
-    rw pushed_more (pushed_unleft r y t (stepped f x y) (y ∷ ys) w.2 o.1 (stepped_unleft f t x y apart ends))
+    let next : Unleft t (stepped f x y) = λ q. stepped_off f x y t q (and_left (eqb t x) (eqb q y) (ne_eqb t x apart)) (ends q) in
+    rw pushed_more (pushed_unleft r y t (stepped f x y) (y ∷ ys) w.2 o.1 next)
+
+-- After a push along nodes of which none but the first may be a no arc leads to a.
+pushed_outward : (a x : ℕ) (f : ℕ → ℕ → Bool) (xs : List ℕ) → among xs a ≡ false → Unentered a f → Unentered a (pushed f (x ∷ xs))
+pushed_outward a x f [] o starts = rw pushed_one starts
+pushed_outward a x f (y ∷ ys) o starts =
+    let k = among_off y ys a o in
+    let next : Unentered a (stepped f x y) = λ p. stepped_off f x y p a (and_right (eqb p x) (eqb a y) (ne_eqb a y k.0)) (starts p) in
+    rw pushed_more (pushed_outward a y (stepped f x y) ys k.1 next)
+
+-- So none does after a push along a route from a.
+pub pushed_unentered : (r : ℕ → ℕ → Bool) (a t : ℕ) (f : ℕ → ℕ → Bool) (xs : List ℕ) → Walk r a t xs → Apart xs → Unentered a f
+    → Unentered a (pushed f xs)
+pushed_unentered r a t f [] w o starts = absurd w
+pushed_unentered r a t f (x ∷ []) w o starts = rw pushed_one starts
+pushed_unentered r a t f (x ∷ (y ∷ ys)) w o starts = pushed_outward a x f (y ∷ ys) (ap (among (y ∷ ys)) (sym w.0) ∙ o.0) starts

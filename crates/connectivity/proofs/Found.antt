@@ -1,11 +1,10 @@
 -- What a search found is a path among the nodes, and pushing along it adds one.
 --
 --   inside        a walk of residual steps stays among the nodes
---   read_nodes    what is read back from the notes are nodes
---   read_ends     after that no arc leads out of the end
---   read_adds     pushing along what is read back adds one to the flow
+--   read_nodes    what is read back from the notes are heads of the arcs
+--   read_held     after a push along them the memory holds the run with a unit more
 --   value_most    a flow's value is at most the number of nodes
-use Rattle.std.proofs.Common.{◌≡◌, ℕ, ◌+◌, ◌<◌, ◌≤◌, Bool, true, List, [], ◌∷◌, reverse, All, sym, subst, arith}
+use Rattle.std.proofs.Common.{◌≡◌, ℕ, ◌<◌, ◌≤◌, Bool, true, List, [], ◌∷◌, reverse, All, subst, ◌∙◌, arith}
 use Rattle.graph.specs.Graph.{node_limit}
 use Rattle.std.proofs.lemmas.List.Elements.{All-nil, All-cons}
 use Rattle.graph.proofs.Counts.{count_most}
@@ -16,8 +15,11 @@ use Rattle.flows.proofs.Push.{push_adds_one_lem}
 use Rattle.augment.specs.Trails.{Trail, walk_back, pushed_back}
 use Rattle.augment.proofs.Trails.{read_reversed, all_reverse}
 use Rattle.augment.proofs.PushBacks.{pushed_is_back}
-use Rattle.connectivity.specs.Runs.{Unleft}
-use Rattle.connectivity.proofs.Ends.{pushed_unleft}
+use Rattle.rows.specs.Flow.{carried}
+use Rattle.rows.specs.declared.flow.Arcs.{Arcs}
+use Rattle.connectivity.specs.declared.run.Searching.{Searching}
+use Rattle.connectivity.specs.Runs.{Held, grown}
+use Rattle.connectivity.proofs.Ends.{pushed_unleft, pushed_unentered}
 
 -- A unit leaves s for each node at most.
 pub value_most : (d : Digraph) (s t : ℕ) (f : ℕ → ℕ → Bool) (v : ℕ) → Flow d s t f v → v ≤ d.nodes
@@ -30,33 +32,37 @@ inside r n stays a b (x ∷ []) h w = All-cons (λ z. z < n) x [] (rw w.0 h) (Al
 inside r n stays a b (x ∷ (y ∷ xs)) h w =
     All-cons (λ z. z < n) x (y ∷ xs) (rw w.0 h) (inside r n stays y b (y ∷ xs) (stays x y w.1) w.2)
 
-module _ (d : Digraph) (s t : ℕ) (f : ℕ → ℕ → Bool) (v : ℕ) (small : d.nodes ≤ node_limit) (sound : Sound d) (fl : Flow d s t f v) (hs : s < d.nodes)
-    (before : List ℕ) (trail : Trail (residual d f) s t before) where
-  -- The nodes of a trail are among the nodes.
-  trail_nodes : All (λ x. x < node_limit) trail.nodes
-  trail_nodes k z l =
-      omega (arith, small, inside (residual d f) d.nodes (λ p q e. (residual_ranged d f sound fl.along p q e).1) s t trail.nodes hs trail.route.walk k z l)
+-- A run and what the memory holds of it, and a trail from end to end that was noted.
+module _ (d : Digraph) (run : Searching) (arcs : Arcs) (small : d.nodes ≤ node_limit) (sound : Sound d) (held : Held d run arcs) (hs : run.from < d.nodes)
+    (before : List ℕ) (trail : Trail (residual d (carried arcs)) run.from run.to before) where
+  -- The nodes of the trail are among the nodes.
+  trail_nodes : All (λ x. x < d.nodes) trail.nodes
+  trail_nodes = inside (residual d (carried arcs)) d.nodes (λ p q e. (residual_ranged d (carried arcs) sound held.flow.along p q e).1) run.from run.to trail.nodes hs trail.route.walk
+
+  -- So they are numbers that the notes have a place for.
+  trail_small : All (λ x. x < node_limit) trail.nodes
+  trail_small k z l = omega (arith, small, trail_nodes k z l)
 
   -- What is read back is the trail turned round.
-  read : reverse trail.nodes ≡ walk_back before s t node_limit
-  read = read_reversed (residual d f) s t before node_limit trail trail_nodes
+  read : reverse trail.nodes ≡ walk_back before run.from run.to node_limit
+  read = read_reversed (residual d (carried arcs)) run.from run.to before node_limit trail trail_small
 
-  -- Pushing back is pushing along the trail.
-  back : pushed_back f (walk_back before s t node_limit) ≡ pushed f trail.nodes
-  back = pushed_is_back (residual d f) s t before node_limit trail f trail_nodes
+  -- Heads of the arcs are read back.
+  pub read_nodes : All (λ x. x < arcs.heads) (walk_back before run.from run.to node_limit)
+  read_nodes =
+      rw held.heads (subst (λ (xs : List ℕ). All (λ x. x < d.nodes) xs) read (all_reverse (λ x. x < d.nodes) trail.nodes trail_nodes))
 
-  -- Nodes are read back.
-  pub read_nodes : All (λ x. x < node_limit) (walk_back before s t node_limit)
-  read_nodes = subst (λ (xs : List ℕ). All (λ x. x < node_limit) xs) read (all_reverse (λ x. x < node_limit) trail.nodes trail_nodes)
+  -- After a push back along them the memory holds the run with a unit more.
+  module _ (apart : run.from ≡ run.to → ⊥) (next : Arcs) (size : next.heads ≡ arcs.heads)
+      (after : carried next ≡ pushed_back (carried arcs) (walk_back before run.from run.to node_limit)) where
+    -- It is a push along the trail.
+    along : carried next ≡ pushed (carried arcs) trail.nodes
+    along = after ∙ pushed_is_back (residual d (carried arcs)) run.from run.to before node_limit trail (carried arcs) trail_small
 
-  -- After a push along them no arc leads out of their end.
-  pub read_ends : Unleft t f → Unleft t (pushed_back f (walk_back before s t node_limit))
-  read_ends ends =
-      subst (λ (h : ℕ → ℕ → Bool). Unleft t h) (sym back)
-      (pushed_unleft (residual d f) s t f trail.nodes trail.route.walk trail.route.apart ends)
-
-  -- Pushing along them adds one.
-  pub read_adds : (s ≡ t → ⊥) → Flow d s t (pushed_back f (walk_back before s t node_limit)) (v + 1)
-  read_adds st =
-      subst (λ (h : ℕ → ℕ → Bool). Flow d s t h (v + 1)) (sym back)
-      (push_adds_one_lem d s t f v trail.nodes sound fl hs st trail.route)
+    pub read_held : Held d (grown run) next
+    read_held = record {
+      heads = size ∙ held.heads;
+      flow = rw along (push_adds_one_lem d run.from run.to (carried arcs) run.value trail.nodes sound held.flow hs apart trail.route);
+      starts = rw along (pushed_unentered (residual d (carried arcs)) run.from run.to (carried arcs) trail.nodes trail.route.walk trail.route.apart held.starts);
+      ends = rw along (pushed_unleft (residual d (carried arcs)) run.from run.to (carried arcs) trail.nodes trail.route.walk trail.route.apart held.ends);
+    }

@@ -1,8 +1,9 @@
 -- What the lent memory holds while a run searches, and once it is finished.
 --
---   Unleft     no arc leads out of a node
---   Held       a flow of the run's value, of which no arc leads out of the run's end
---   Largest    a flow that no residual path leads on from
+--   Unleft, Unentered   no arc leads out of a node; none leads to it
+--   Held       a flow of the run's value among the nodes of its plan, from its first end to the other
+--   Largest    a flow from end to end that no residual path leads on from
+--   grown      a run with a unit more
 --   PushedOn   what a push leaves: one unit more, or the finished run
 --   EndedAt    a push that gives the finished run has come to a value
 use Rattle.std.specs.Prelude.{◌≡◌, ℕ, ◌+◌, Bool, false}
@@ -18,20 +19,32 @@ use Rattle.std.specs.declared.ops.ControlFlow.TheVariants.{Continue, Break}
 abbrev pub Unleft : ℕ → (ℕ → ℕ → Bool) → Type 0
 Unleft t f = (q : ℕ) → f t q ≡ false
 
--- The memory holds a flow of the value of a searching run, which ends at the run's end.
+-- No arc of a set leads to a.
+abbrev pub Unentered : ℕ → (ℕ → ℕ → Bool) → Type 0
+Unentered a f = (q : ℕ) → f q a ≡ false
+
+-- The memory holds a flow of the value of a searching run, which begins at the run's first end and ends at
+-- the other. The heads of its arcs are the nodes.
 pub record Held (d : Digraph) (run : Searching) (arcs : Arcs) : Type 0 where
+  pub heads : arcs.heads ≡ d.nodes
   pub flow : Flow d run.from run.to (carried arcs) run.value
+  pub starts : Unentered run.from (carried arcs)
   pub ends : Unleft run.to (carried arcs)
 
--- The memory holds a flow of the value of a finished run, and no residual path leads on to its end.
+-- The memory holds a flow of the value of a finished run, which begins at the run's first end, and no
+-- residual path leads on to the other.
 pub record Largest (d : Digraph) (run : Finished) (arcs : Arcs) : Type 0 where
   pub flow : Flow d run.from run.to (carried arcs) run.value
+  pub starts : Unentered run.from (carried arcs)
   pub stuck : residual_side d (carried arcs) run.from run.to ≡ false
+
+-- The same ends, and a unit more.
+abbrev pub grown : Searching → Searching
+grown run = record { from = run.from; to = run.to; value = run.value + 1 }
 
 -- A push adds one path, or finds none and leaves the numbers of the run as they are.
 abbrev pub PushedOn : Digraph → Searching → ControlFlow Finished Searching → Arcs → Type 0
-PushedOn d run (Continue next) arcs =
-    (next ≡ record { from = run.from; to = run.to; value = run.value + 1 }) × Held d next arcs
+PushedOn d run (Continue next) arcs = (next ≡ grown run) × Held d next arcs
 PushedOn d run (Break last) arcs =
     (last ≡ record { from = run.from; to = run.to; value = run.value }) × Largest d last arcs
 

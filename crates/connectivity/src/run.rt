@@ -5,13 +5,13 @@
 // be a fact of its type. Flow and scratch memory go side by side, since a finished run takes the flow
 // for reading only.
 ghost use Rattle.std.specs.Prelude.{◌≡◌, ℕ, ◌+◌, ◌^◌, ◌<◌, ◌≤◌, true, false, length};
-ghost use Rattle.flows.specs.Flow.{Digraph, Flow, residual, residual_side};
+ghost use Rattle.flows.specs.Flow.{residual, residual_side};
 ghost use Rattle.augment.specs.Trails.{Trail};
 ghost use Rattle.rows.specs.Flow.{carried};
 ghost use Rattle.rows.specs.Marks.{marked};
 ghost use Rattle.plan.specs.Buffers.{in_front};
 ghost use Rattle.search.specs.Goals.{Far};
-ghost use Rattle.connectivity.specs.Runs.{Unleft, Held, Largest, PushedOn, EndedAt};
+ghost use Rattle.connectivity.specs.Runs.{Unleft, Held, Largest, grown, PushedOn, EndedAt};
 
 use crate::work::Scratch;
 use augment::push_back;
@@ -63,16 +63,22 @@ pub(crate) struct Finished {
 pub(crate) type Pushed = ControlFlow<Finished, Searching>;
 
 impl Searching {
-    // Begins a run: the memory holds no flow, and the count is one higher.
-    pub(crate) fn begin(count: &mut RunCount, flow: &mut Arcs<'_>, from: u16, to: u16) -> Searching
+    // Begins a run: the memory holds no flow among the nodes of the plan, and the count is one higher.
+    pub(crate) fn begin<P: CutPlan>(
+        count: &mut RunCount,
+        plan: &mut P,
+        flow: &mut Arcs<'_>,
+        from: u16,
+        to: u16,
+    ) -> Searching
         requires { count.old.begun + 1 < 2 ^ 32 }
         ensures counted { count.new.begun ≡ count.old.begun + 1 }
+        ensures same { plan.new ≡ plan.old }
         ensures run { result ≡ record { from = from; to = to; value = 0 } }
-        ensures flow { (d : Digraph) → Flow d from to (carried flow.new) 0 }
-        ensures ends { Unleft to (carried flow.new) }
+        ensures held { Held (P.Plan.digraph plan.old) result flow.new }
     {
         count.begun += 1;
-        flow.wipe();
+        flow.wipe(plan.node_count());
         Searching { from, to, value: 0 }
     }
 
@@ -121,8 +127,7 @@ impl Searching {
         requires far { Far (P.Plan.digraph plan.old) self.now.to (marked far.now) }
         requires flow { Held (P.Plan.digraph plan.old) self.now flow.old }
         ensures same { plan.new ≡ plan.old }
-        ensures pushed { result ≡ true → Flow (P.Plan.digraph plan.old) self.now.from self.now.to (carried flow.new) (self.now.value + 1) }
-        ensures ends { result ≡ true → Unleft self.now.to (carried flow.new) }
+        ensures pushed { result ≡ true → Held (P.Plan.digraph plan.old) (grown self.now) flow.new }
         ensures kept { result ≡ false → flow.new ≡ flow.old }
         ensures stuck { result ≡ false → residual_side (P.Plan.digraph plan.old) (carried flow.old) self.now.from self.now.to ≡ false }
     {
@@ -254,7 +259,7 @@ pub(crate) fn complete<P: CutPlan>(
     ensures run { result ≡ record { from = from; to = to; value = P.CutPlan.valued plan.old from to } }
     ensures largest { Largest (P.Plan.digraph plan.old) result flow.new }
 {
-    let mut run = Searching::begin(count, flow, from, to);
+    let mut run = Searching::begin(count, plan, flow, from, to);
     let far = far_from(plan, to);
     loop {
         match run.push(plan, flow, &far, scratch) {

@@ -6,7 +6,7 @@
 --   by_along, by_back     a fresh node is found, and is marked, noted and waiting
 --   along_all, back_all   no more fresh node is there
 use Rattle.std.proofs.Common.{◌≡◌, ℕ, ◌+◌, ◌<◌, ◌≤◌, Bool, true, false, not, ◌&&◌, ◌||◌, eqb, ◌⊎◌, List, [], ◌∷◌, ◌++◌, length, set, IfSome, Option, sym, refl, ap, ◌∙◌, subst, inl, inr, ⊎_elim, arith, length-append, MatchOption}
-use Rattle.std.proofs.lemmas.Bool.{cases_lt, cases_eq, or_cases, or_left, or_right}
+use Rattle.std.proofs.lemmas.Bool.{cases_lt, cases_eq, or_cases, or_left}
 use Rattle.graph.proofs.Firsts.{Found}
 use Rattle.flows.specs.Flow.{Digraph, residual}
 use Rattle.flows.proofs.Lists.{among_head, among_tail, among_cases}

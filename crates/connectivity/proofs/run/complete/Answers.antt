@@ -11,8 +11,7 @@ pub loop-next-init : goal.loop-next-init
 loop-next-init g c =
     let e = c.begin-run.ensures.run in
     let same = c.far_from-far.ensures.same in
-    let d = g.P.Plan.digraph c.far_from-far.new.plan in
-    let held : Held d c.begin-run.result c.begin-run.new.flow = record { flow = rw e (c.begin-run.ensures.flow d); ends = rw e c.begin-run.ensures.ends } in
+    let held : Held (g.P.Plan.digraph c.far_from-far.new.plan) c.begin-run.result c.begin-run.new.flow = rw (same, c.begin-run.ensures.same) c.begin-run.ensures.held in
     (refl, rw e, rw e, rw same c.far_from-far.ensures.far, held)
 
 pub loop-next-smaller : goal.loop-next-smaller

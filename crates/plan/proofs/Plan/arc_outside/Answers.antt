@@ -1,8 +1,7 @@
 use Rattle.std.proofs.Common.{sym, ◌∙◌, arith}
 use Rattle.graph.proofs.Firsts.{Found, first_some}
 use Rattle.rows.specs.Layout.{set_limit}
-use Rattle.rows.specs.Marks.{marked}
-use Rattle.rows.proofs.Fresh.{fresh_marked, hit, none, leap, leap_none, found_in, none_in}
+use Rattle.rows.proofs.Fresh.{hit, none, leap, leap_none, found_in, none_in}
 use Rattle.plan.proofs.Plan.arc_outside.Given as given
 use Rattle.plan.proofs.Plan.arc_outside.Goals as goal
 use Rattle.plan.proofs.Plan.arc_outside.Goals.{In-Some}

@@ -1,9 +1,7 @@
-use Rattle.std.proofs.Common.{ℕ, Bool, sym, ◌∙◌, arith}
-use Rattle.graph.specs.Graph.{Graph}
+use Rattle.std.proofs.Common.{sym, ◌∙◌, arith}
 use Rattle.graph.proofs.Firsts.{Found, first_some}
 use Rattle.rows.specs.Layout.{set_limit}
-use Rattle.rows.specs.Marks.{marked}
-use Rattle.rows.proofs.Fresh.{fresh_marked, hit, none, leap, leap_none, found_in, none_in}
+use Rattle.rows.proofs.Fresh.{hit, none, leap, leap_none, found_in, none_in}
 use Rattle.store.proofs.Map.next_outside.Given as given
 use Rattle.store.proofs.Map.next_outside.Goals as goal
 use Rattle.store.proofs.Map.next_outside.Goals.{In-Some}

@@ -9,7 +9,7 @@ pub overflow_add-result : goal.overflow_add-result
 overflow_add-result g c =
     let p = c.args.plan.now in
     let run = c.args.self in
-    let most = value_most (g.P.Plan.digraph p) run.from run.to (carried c.advance-found.new.flow) (run.value + 1) (c.if-found.ensures.pushed refl) in
+    let most = value_most (g.P.Plan.digraph p) run.from run.to (carried c.advance-found.new.flow) (run.value + 1) (c.if-found.ensures.pushed refl).flow in
     omega (arith, most, g.P.Plan.small p)
 
 pub returns-else-found-clause-value : goal.returns-else-found-clause-value

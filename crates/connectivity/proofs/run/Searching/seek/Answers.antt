@@ -1,5 +1,4 @@
 -- Where every node is closed to the end, it is not reached.
-use Rattle.std.proofs.Common.{refl}
 use Rattle.rows.specs.Flow.{carried}
 use Rattle.rows.specs.Marks.{marked}
 use Rattle.connectivity.proofs.Ends.{cut_off}
