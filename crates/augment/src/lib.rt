@@ -6,4 +6,4 @@ mod notes;
 mod push;
 
 pub use notes::Notes;
-pub use push::{push_back, pushed_back};
+pub use push::{augment, pushed_back};

@@ -24,7 +24,7 @@ fn step(flow: &mut Arcs<'_>, p: u16, q: u16)
 
 // Pushes one unit along the route that is noted from `from` to `to`, read back from its end: the last
 // step first.
-pub fn push_back(flow: &mut Arcs<'_>, notes: &Notes<'_>, from: u16, to: u16)
+pub fn augment(flow: &mut Arcs<'_>, notes: &Notes<'_>, from: u16, to: u16)
     requires { All (λ x. x < flow.old.heads) (walk_back notes.now.before.now from to node_limit) }
     ensures arcs { carried flow.new ≡ pushed_back (carried flow.old) (walk_back notes.now.before.now from to node_limit) }
     ensures heads { flow.new.heads ≡ flow.old.heads }

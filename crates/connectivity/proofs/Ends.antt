@@ -3,7 +3,7 @@
 --
 --   none_open       where none below n is the first not marked, all are marked
 --   cut_off         the end is not reached
---   pushed_unleft, pushed_unentered   after a push along a route none leads out of its end, or to its beginning
+--   pushed_none_out, pushed_none_in   after a push along a route none leads out of its end, or to its beginning
 use Rattle.std.proofs.Common.{◌≡◌, ℕ, ◌-◌, ◌<◌, Bool, true, false, not, ◌&&◌, eqb, List, [], ◌∷◌, Some, None, Option, sym, refl, ap, ◌∙◌, ⊎_elim, arith}
 use Rattle.std.specs.Option.{is_none}
 use Rattle.std.proofs.lemmas.Bool.{both_ways, cases_Bool, or_cases, or_from, and_left, and_right, ne_eqb, not-true, not-false}
@@ -16,7 +16,7 @@ use Rattle.flows.proofs.Lists.{among_head, among_tail, among_off, never_true}
 use Rattle.flows.proofs.Reached.{reached_each}
 use Rattle.search.specs.Goals.{Closed}
 use Rattle.search.specs.Steps.{along}
-use Rattle.connectivity.specs.Runs.{Unleft, Unentered}
+use Rattle.connectivity.specs.Runs.{NoneInto, NoneOutOf}
 
 -- Where the lowest number below n that is not in a set is none, all are in it.
 pub none_open : (set : ℕ → Bool) (n : ℕ) (lowest : Option ℕ) → lowest ≡ first (λ k. not (set k)) 0 (n - 0) → is_none lowest ≡ true → (q : ℕ) → q < n
@@ -24,7 +24,7 @@ pub none_open : (set : ℕ → Bool) (n : ℕ) (lowest : Option ℕ) → lowest 
 none_open set n None h e q l = not-false (set q) (first_all (λ k. not (set k)) 0 n (sym h) q (omega arith) l)
 none_open set n (Some v) h e q l = absurd (both_ways false refl e)
 
-module _ (d : Digraph) (f : ℕ → ℕ → Bool) (s t : ℕ) (below : s < d.nodes) (apart : s ≡ t → ⊥) (ends : Unleft t f) (closed : ℕ → Bool)
+module _ (d : Digraph) (f : ℕ → ℕ → Bool) (s t : ℕ) (below : s < d.nodes) (apart : s ≡ t → ⊥) (ends : NoneOutOf f t) (closed : ℕ → Bool)
     (sets : Closed d f t closed) (all : (q : ℕ) → q < d.nodes → closed q ≡ true) where
   -- No residual step leads to the end.
   no_step : (p : ℕ) → p < d.nodes → residual d f p t ≡ true → ⊥
@@ -64,25 +64,25 @@ stepped_off f x y p q other off =
     (cases_Bool (f y x))
 
 -- After a push along a route to t no arc leads out of t.
-pub pushed_unleft : (r : ℕ → ℕ → Bool) (a t : ℕ) (f : ℕ → ℕ → Bool) (xs : List ℕ) → Walk r a t xs → Apart xs → Unleft t f → Unleft t (pushed f xs)
-pushed_unleft r a t f [] w o ends = absurd w
-pushed_unleft r a t f (x ∷ []) w o ends = rw pushed_one ends
-pushed_unleft r a t f (x ∷ (y ∷ ys)) w o ends =
+pub pushed_none_out : (r : ℕ → ℕ → Bool) (a t : ℕ) (f : ℕ → ℕ → Bool) (xs : List ℕ) → Walk r a t xs → Apart xs → NoneOutOf f t → NoneOutOf (pushed f xs) t
+pushed_none_out r a t f [] w o ends = absurd w
+pushed_none_out r a t f (x ∷ []) w o ends = rw pushed_one ends
+pushed_none_out r a t f (x ∷ (y ∷ ys)) w o ends =
     let apart : t ≡ x → ⊥ = λ e. both_ways (among (y ∷ ys) x) o.0 (ap (among (y ∷ ys)) (sym e) ∙ end_among r y t (y ∷ ys) w.2) in
-    let next : Unleft t (stepped f x y) = λ q. stepped_off f x y t q (and_left (eqb t x) (eqb q y) (ne_eqb t x apart)) (ends q) in
-    rw pushed_more (pushed_unleft r y t (stepped f x y) (y ∷ ys) w.2 o.1 next)
+    let next : NoneOutOf (stepped f x y) t = λ q. stepped_off f x y t q (and_left (eqb t x) (eqb q y) (ne_eqb t x apart)) (ends q) in
+    rw pushed_more (pushed_none_out r y t (stepped f x y) (y ∷ ys) w.2 o.1 next)
 
 -- After a push along nodes of which none but the first may be a no arc leads to a.
-pushed_outward : (a x : ℕ) (f : ℕ → ℕ → Bool) (xs : List ℕ) → among xs a ≡ false → Unentered a f → Unentered a (pushed f (x ∷ xs))
-pushed_outward a x f [] o starts = rw pushed_one starts
-pushed_outward a x f (y ∷ ys) o starts =
+pushed_behind : (a x : ℕ) (f : ℕ → ℕ → Bool) (xs : List ℕ) → among xs a ≡ false → NoneInto f a → NoneInto (pushed f (x ∷ xs)) a
+pushed_behind a x f [] o starts = rw pushed_one starts
+pushed_behind a x f (y ∷ ys) o starts =
     let k = among_off y ys a o in
-    let next : Unentered a (stepped f x y) = λ p. stepped_off f x y p a (and_right (eqb p x) (eqb a y) (ne_eqb a y k.0)) (starts p) in
-    rw pushed_more (pushed_outward a y (stepped f x y) ys k.1 next)
+    let next : NoneInto (stepped f x y) a = λ p. stepped_off f x y p a (and_right (eqb p x) (eqb a y) (ne_eqb a y k.0)) (starts p) in
+    rw pushed_more (pushed_behind a y (stepped f x y) ys k.1 next)
 
 -- So none does after a push along a route from a.
-pub pushed_unentered : (r : ℕ → ℕ → Bool) (a t : ℕ) (f : ℕ → ℕ → Bool) (xs : List ℕ) → Walk r a t xs → Apart xs → Unentered a f
-    → Unentered a (pushed f xs)
-pushed_unentered r a t f [] w o starts = absurd w
-pushed_unentered r a t f (x ∷ []) w o starts = rw pushed_one starts
-pushed_unentered r a t f (x ∷ (y ∷ ys)) w o starts = pushed_outward a x f (y ∷ ys) (ap (among (y ∷ ys)) (sym w.0) ∙ o.0) starts
+pub pushed_none_in : (r : ℕ → ℕ → Bool) (a t : ℕ) (f : ℕ → ℕ → Bool) (xs : List ℕ) → Walk r a t xs → Apart xs → NoneInto f a
+    → NoneInto (pushed f xs) a
+pushed_none_in r a t f [] w o starts = absurd w
+pushed_none_in r a t f (x ∷ []) w o starts = rw pushed_one starts
+pushed_none_in r a t f (x ∷ (y ∷ ys)) w o starts = pushed_behind a x f (y ∷ ys) (ap (among (y ∷ ys)) (sym w.0) ∙ o.0) starts

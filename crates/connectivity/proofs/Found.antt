@@ -19,7 +19,7 @@ use Rattle.rows.specs.Flow.{carried}
 use Rattle.rows.specs.declared.flow.Arcs.{Arcs}
 use Rattle.connectivity.specs.declared.run.Searching.{Searching}
 use Rattle.connectivity.specs.Runs.{Held, grown}
-use Rattle.connectivity.proofs.Ends.{pushed_unleft, pushed_unentered}
+use Rattle.connectivity.proofs.Ends.{pushed_none_out, pushed_none_in}
 
 -- A unit leaves s for each node at most.
 pub value_most : (d : Digraph) (s t : ℕ) (f : ℕ → ℕ → Bool) (v : ℕ) → Flow d s t f v → v ≤ d.nodes
@@ -63,6 +63,6 @@ module _ (d : Digraph) (run : Searching) (arcs : Arcs) (small : d.nodes ≤ node
     read_held = record {
       heads = size ∙ held.heads;
       flow = rw along (push_adds_one_lem d run.from run.to (carried arcs) run.value trail.nodes sound held.flow hs apart trail.route);
-      starts = rw along (pushed_unentered (residual d (carried arcs)) run.from run.to (carried arcs) trail.nodes trail.route.walk trail.route.apart held.starts);
-      ends = rw along (pushed_unleft (residual d (carried arcs)) run.from run.to (carried arcs) trail.nodes trail.route.walk trail.route.apart held.ends);
+      starts = rw along (pushed_none_in (residual d (carried arcs)) run.from run.to (carried arcs) trail.nodes trail.route.walk trail.route.apart held.starts);
+      ends = rw along (pushed_none_out (residual d (carried arcs)) run.from run.to (carried arcs) trail.nodes trail.route.walk trail.route.apart held.ends);
     }

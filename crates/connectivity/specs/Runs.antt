@@ -1,6 +1,6 @@
 -- What the lent memory holds while a run searches, and once it is finished.
 --
---   Unleft, Unentered   no arc leads out of a node; none leads to it
+--   NoneInto, NoneOutOf   no arc leads to a node; none leads out of it
 --   Held       a flow of the run's value among the nodes of its plan, from its first end to the other
 --   Largest    a flow from end to end that no residual path leads on from
 --   grown      a run with a unit more
@@ -15,27 +15,27 @@ use Rattle.connectivity.specs.declared.run.Finished.{Finished}
 use Rattle.std.specs.declared.ops.ControlFlow.{ControlFlow}
 use Rattle.std.specs.declared.ops.ControlFlow.TheVariants.{Continue, Break}
 
--- No arc of a set leads out of t.
-abbrev pub Unleft : ℕ → (ℕ → ℕ → Bool) → Type 0
-Unleft t f = (q : ℕ) → f t q ≡ false
-
 -- No arc of a set leads to a.
-abbrev pub Unentered : ℕ → (ℕ → ℕ → Bool) → Type 0
-Unentered a f = (q : ℕ) → f q a ≡ false
+abbrev pub NoneInto : (ℕ → ℕ → Bool) → ℕ → Type 0
+NoneInto f a = (q : ℕ) → f q a ≡ false
+
+-- No arc of a set leads out of t.
+abbrev pub NoneOutOf : (ℕ → ℕ → Bool) → ℕ → Type 0
+NoneOutOf f t = (q : ℕ) → f t q ≡ false
 
 -- The memory holds a flow of the value of a searching run, which begins at the run's first end and ends at
 -- the other. The heads of its arcs are the nodes.
 pub record Held (d : Digraph) (run : Searching) (arcs : Arcs) : Type 0 where
   pub heads : arcs.heads ≡ d.nodes
   pub flow : Flow d run.from run.to (carried arcs) run.value
-  pub starts : Unentered run.from (carried arcs)
-  pub ends : Unleft run.to (carried arcs)
+  pub starts : NoneInto (carried arcs) run.from
+  pub ends : NoneOutOf (carried arcs) run.to
 
 -- The memory holds a flow of the value of a finished run, which begins at the run's first end, and no
 -- residual path leads on to the other.
 pub record Largest (d : Digraph) (run : Finished) (arcs : Arcs) : Type 0 where
   pub flow : Flow d run.from run.to (carried arcs) run.value
-  pub starts : Unentered run.from (carried arcs)
+  pub starts : NoneInto (carried arcs) run.from
   pub stuck : residual_side d (carried arcs) run.from run.to ≡ false
 
 -- The same ends, and a unit more.

@@ -11,10 +11,10 @@ ghost use Rattle.rows.specs.Flow.{carried};
 ghost use Rattle.rows.specs.Marks.{marked};
 ghost use Rattle.plan.specs.Buffers.{in_front};
 ghost use Rattle.search.specs.Goals.{Far};
-ghost use Rattle.connectivity.specs.Runs.{Unleft, Held, Largest, grown, PushedOn, EndedAt};
+ghost use Rattle.connectivity.specs.Runs.{NoneOutOf, Held, Largest, grown, PushedOn, EndedAt};
 
 use crate::work::Scratch;
-use augment::push_back;
+use augment::augment;
 use plan::CutPlan;
 use rows::flow::Arcs;
 use rows::marks::Marks;
@@ -93,7 +93,7 @@ impl Searching {
     ) -> bool
         requires asked { P.CutPlan.asked plan.old self.now.from self.now.to }
         requires far { Far (P.Plan.digraph plan.old) self.now.to (marked far.now) }
-        requires ends { Unleft self.now.to (carried flow.now) }
+        requires ends { NoneOutOf (carried flow.now) self.now.to }
         ensures same { plan.new ≡ plan.old }
         ensures noted { result ≡ true → Trail (residual (P.Plan.digraph plan.old) (carried flow.now)) self.now.from self.now.to scratch.new.notes.before.now }
         ensures stuck { result ≡ false → residual_side (P.Plan.digraph plan.old) (carried flow.now) self.now.from self.now.to ≡ false }
@@ -134,7 +134,7 @@ impl Searching {
         if !self.seek(plan, flow, far, scratch) {
             return false;
         }
-        push_back(flow, &scratch.notes, self.from, self.to);
+        augment(flow, &scratch.notes, self.from, self.to);
         true
     }
 

@@ -4,8 +4,8 @@ use Rattle.connectivity.proofs.Found.{read_nodes, read_held}
 use Rattle.connectivity.proofs.run.Searching.advance.Goals as goal
 
 -- What is read back are heads.
-pub push_back-requires : goal.push_back-requires
-push_back-requires g c =
+pub augment-requires : goal.augment-requires
+augment-requires g c =
     let p = c.args.plan.now in
     let run = c.args.self.now in
     let ends = g.met.P.CutPlan.two p run.from run.to c.requires.asked in
@@ -19,4 +19,4 @@ returns-clause-pushed g c _ =
     let run = c.args.self.now in
     let ends = g.met.P.CutPlan.two p run.from run.to c.requires.asked in
     read_held (g.P.Plan.digraph p) run c.args.flow.now (g.P.Plan.small p) (g.P.Plan.sound p) c.requires.flow ends.0
-    c.seek.new.scratch.notes.before.now (c.if-not-seek.ensures.noted refl) ends.2 _ c.push_back.ensures.heads c.push_back.ensures.arcs
+    c.seek.new.scratch.notes.before.now (c.if-not-seek.ensures.noted refl) ends.2 _ c.augment.ensures.heads c.augment.ensures.arcs

@@ -2,7 +2,7 @@ use Rattle.std.proofs.Common.{◌≡◌, ◌+◌, ◌-◌, ◌<◌, ℕ, sym, �
 use Rattle.graph.specs.Graph.{node_limit}
 use Rattle.rows.specs.Flow.{carried}
 use Rattle.augment.proofs.PushBacks.{back_here, back_one, back_more, first_back, rest_back}
-use Rattle.augment.proofs.push.push_back.Goals as goal
+use Rattle.augment.proofs.push.augment.Goals as goal
 
 -- The node noted and the one before it are nodes.
 pub step-requires : goal.step-requires

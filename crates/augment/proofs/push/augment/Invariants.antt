@@ -4,7 +4,7 @@ use Rattle.std.proofs.Common.{◌≡◌, ◌-◌, ◌<◌, All}
 use Rattle.graph.specs.Graph.{node_limit}
 use Rattle.rows.specs.Flow.{carried}
 use Rattle.augment.specs.Trails.{walk_back, pushed_back}
-use Rattle.augment.proofs.push.push_back.Given as goal
+use Rattle.augment.proofs.push.augment.Given as goal
 
 abbrev pub invariant-loop : goal.invariant-loop
 invariant-loop l =
