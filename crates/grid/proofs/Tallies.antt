@@ -5,7 +5,7 @@ use Rattle.std.proofs.lemmas.Nat.{shr_below}
 use Rattle.graph.specs.Graph.{count}
 use Rattle.graph.proofs.Counts.{count_zero, count_ext, count_front, count_split}
 use Rattle.bits.specs.Bits.{bit, has}
-use Rattle.grid.specs.Rows.{set_bits}
+use Rattle.grid.specs.Rows.{vertex_bits, set_bits}
 use Rattle.bits.proofs.Bits.{bit_half, bit_low}
 use Rattle.bits.proofs.Scans.{word_at}
 
@@ -24,7 +24,7 @@ word_count : (row : List ℕ) (i : ℕ) → count (λ j. has row 0 (64 * i + j))
 word_count row i = count_ext (λ j. has row 0 (64 * i + j)) (bit (get_or row i 0)) 64 (λ j l. word_at row i j l)
 
 -- The bits of the four words of a row are the bits that it has.
-pub row_count : (row : List ℕ) → set_bits row ≡ count (has row 0) 256
+pub row_count : (row : List ℕ) → set_bits row ≡ count (has row 0) vertex_bits
 row_count row =
     let p = has row 0 in
     let e3 = count_split p 192 64 in

@@ -1,34 +1,25 @@
 -- Words that are wiped mean a map without edges.
-use Rattle.std.proofs.Common.{◌≡◌, ℕ, ◌+◌, ◌*◌, ◌/◌, ◌%◌, ◌<◌, ◌≤◌, Bool, true, false, ◌&&◌, ltb, List, length, get_or, sym, refl, ap, ◌∙◌, ⊎_elim, arith, length-append, length-drop}
+use Rattle.std.proofs.Common.{◌≡◌, ℕ, ◌*◌, ◌≤◌, false, ◌&&◌, ltb, List, length, sym, refl, ⊎_elim, arith, length-append, length-drop}
 use lib.ListN.{length-replicate}
-use Rattle.std.proofs.lemmas.List.{places}
-use Rattle.std.proofs.lemmas.Bool.{cases_lt, le-ltb, true≢false}
+use Rattle.std.proofs.lemmas.Bool.{cases_lt, le-ltb, and_left, and_right, true≢false}
 use Rattle.graph.specs.Graph.{Simple, order_limit, empty}
 use Rattle.graph.proofs.Edges.{same_graph}
-use Rattle.bits.specs.Bits.{bit, has}
-use Rattle.grid.specs.Rows.{grid, wiped}
-use Rattle.bits.proofs.Bits.{zero_bit}
-
--- The words of the rows are 0.
-wiped_word : (n i : ℕ) (xs : List ℕ) → i < 4 * n → get_or (wiped n xs) i 0 ≡ 0
-wiped_word n i xs h = grind (arith, places)
+use Rattle.bits.specs.Bits.{has}
+use Rattle.bits.proofs.Parts.{wiped_has}
+use Rattle.grid.specs.Rows.{vertex_words, vertex_bits, grid, wiped}
 
 -- No bit of the rows is set.
 pub wiped_clear : (n : ℕ) (xs : List ℕ) (u v : ℕ) → (grid n (wiped n xs)).joined u v ≡ false
 wiped_clear n xs u v =
+    let g = ltb u n && ltb v vertex_bits in
+    let h = has (wiped n xs) (vertex_words * u) v in
     ⊎_elim
-    (λ h. ⊎_elim
-    (λ k. ap (λ (x : ℕ). (ltb u n && ltb v 256) && bit x (v % 64)) (wiped_word n (4 * u + v / 64) xs (omega arith))
-    ∙ ap (λ (b : Bool). (ltb u n && ltb v 256) && b) (zero_bit (v % 64)) ∙ and_off (ltb u n && ltb v 256))
-    (λ k. ap (λ (b : Bool). (ltb u n && b) && has (wiped n xs) (4 * u) v) (le-ltb v 256 k)
-    ∙ ap (λ (b : Bool). b && has (wiped n xs) (4 * u) v) (and_off (ltb u n)))
-    (cases_lt v 256))
-    (λ h. ap (λ (b : Bool). (b && ltb v 256) && has (wiped n xs) (4 * u) v) (le-ltb u n h))
+    (λ k. ⊎_elim
+    (λ l. and_right g h (wiped_has (vertex_words * n) xs (vertex_words * u) v (omega arith)))
+    (λ l. and_left g h (and_right (ltb u n) (ltb v vertex_bits) (le-ltb v vertex_bits l)))
+    (cases_lt v vertex_bits))
+    (λ k. and_left g h (and_left (ltb u n) (ltb v vertex_bits) (le-ltb u n k)))
     (cases_lt u n)
-  where
-    and_off : (b : Bool) → (b && false) ≡ false
-    and_off true = refl
-    and_off false = refl
 
 -- Wiped words mean the map of n vertices and no edge.
 pub wiped_empty : (n : ℕ) (xs : List ℕ) → grid n (wiped n xs) ≡ empty n
@@ -45,5 +36,5 @@ empty_simple n some small = record {
 }
 
 -- Wiped words are as many as before.
-pub wiped_length : (n : ℕ) (xs : List ℕ) → 4 * n ≤ length xs → length (wiped n xs) ≡ length xs
+pub wiped_length : (n : ℕ) (xs : List ℕ) → vertex_words * n ≤ length xs → length (wiped n xs) ≡ length xs
 wiped_length n xs h = simp (length-append, length-replicate, length-drop) (omega arith)

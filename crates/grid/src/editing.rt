@@ -6,11 +6,11 @@ ghost use Rattle.model.specs.Model.{bare, unmade};
 ghost use Rattle.model.specs.Table.{reply, reply_on};
 ghost use Rattle.model.specs.declared.call.Call.TheVariants.{Make, Join, Part};
 ghost use Rattle.store.specs.Change.{after_join, after_part};
-ghost use Rattle.grid.specs.Rows.{wiped, lent_words};
+ghost use Rattle.grid.specs.Rows.{vertex_words, wiped, lent_words};
 ghost use Rattle.grid.specs.Meaning.{graph_of, capacity_of};
 
 use crate::Grid;
-use crate::words::{set_edge, wipe_rows};
+use crate::words::{VERTEX_WORDS, set_edge, wipe_rows};
 use model::{Refusal, Vertex, is_bad_order};
 use store::{Editable, check_ends};
 
@@ -18,7 +18,7 @@ impl<'a> Grid<'a> {
     // The map of n vertices and no edge, over the first words of the memory: the rows are zeros,
     // and the words after them are as they were. The order is a plain number, as `make` takes it.
     pub fn over(n: u16, memory: &'a mut [u64]) -> Grid<'a>
-        requires { (1 ≤ n) × ((n ≤ order_limit) × (4 * n ≤ length memory.old)) }
+        requires { (1 ≤ n) × ((n ≤ order_limit) × (vertex_words * n ≤ length memory.old)) }
         ensures order { result.n ≡ n }
         ensures words { result.words.now ≡ wiped n memory.old }
     {
@@ -33,7 +33,7 @@ impl<'a> Editable for Grid<'a> {
     // Every pair can be joined.
     ghost most = { capacity_of };
 
-    // Four words a vertex are enough.
+    // The rows of the vertices are enough.
     ghost lent = { λ memory. lent_words memory.now };
 
     // Whether the memory holds the rows of n vertices.
@@ -41,7 +41,7 @@ impl<'a> Editable for Grid<'a> {
         if is_bad_order(n) {
             return Err(Refusal::BadOrder);
         }
-        if memory.len() < 4 * n as usize {
+        if memory.len() < VERTEX_WORDS * n as usize {
             return Err(Refusal::ShortMemory);
         }
         Ok(())
@@ -69,7 +69,7 @@ impl<'a> Editable for Grid<'a> {
         ensures after { graph_of self.new ≡ after_join result (graph_of self.old) u v }
         ensures most { capacity_of self.new ≡ capacity_of self.old }
         ensures unchanged { is_ok result ≡ false → self.new ≡ self.old }
-        ensures rest { drop (4 * self.old.n) self.new.words.now ≡ drop (4 * self.old.n) self.old.words.now }
+        ensures rest { drop (vertex_words * self.old.n) self.new.words.now ≡ drop (vertex_words * self.old.n) self.old.words.now }
     {
         check_ends(self.n, u, v)?;
         if self.has(u, v) {
@@ -85,7 +85,7 @@ impl<'a> Editable for Grid<'a> {
         ensures after { graph_of self.new ≡ after_part result (graph_of self.old) u v }
         ensures most { capacity_of self.new ≡ capacity_of self.old }
         ensures unchanged { is_ok result ≡ false → self.new ≡ self.old }
-        ensures rest { drop (4 * self.old.n) self.new.words.now ≡ drop (4 * self.old.n) self.old.words.now }
+        ensures rest { drop (vertex_words * self.old.n) self.new.words.now ≡ drop (vertex_words * self.old.n) self.old.words.now }
     {
         check_ends(self.n, u, v)?;
         if !self.has(u, v) {

@@ -5,14 +5,14 @@
 
 ghost use Rattle.std.specs.Prelude.{◌≡◌, ℕ, ◌*◌, ◌<◌, ◌≤◌, true, false, length};
 ghost use Rattle.graph.specs.Graph.{order_limit};
-ghost use Rattle.grid.specs.Rows.{grid};
+ghost use Rattle.grid.specs.Rows.{vertex_words, grid};
 
 mod counts;
 mod editing;
 mod questions;
 mod words;
 
-// A map of n vertices over the first 4 n of the lent words. The ghost facts say that what the
+// A map of n vertices over the first of the lent words, a row for each. The ghost facts say that what the
 // words mean is a simple graph; the bits from n up in a row are clear by the last of them.
 #[derive(Drop)]
 pub struct Grid<'a> {
@@ -20,7 +20,7 @@ pub struct Grid<'a> {
     words: &'a mut [u64],
     ghost some: { 1 ≤ n },
     ghost small: { n ≤ order_limit },
-    ghost room: { 4 * n ≤ length words.now },
+    ghost room: { vertex_words * n ≤ length words.now },
     ghost even: { (u v : ℕ) → (grid n words.now).joined u v ≡ (grid n words.now).joined v u },
     ghost loose: { (u : ℕ) → (grid n words.now).joined u u ≡ false },
     ghost within: { (u v : ℕ) → (grid n words.now).joined u v ≡ true → (u < n) × (v < n) },

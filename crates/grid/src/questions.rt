@@ -3,11 +3,13 @@
 ghost use Rattle.std.specs.Prelude.{◌≡◌, ◌+◌, ◌*◌, ◌<◌, slice_range};
 ghost use Rattle.graph.specs.Graph.{degree, next};
 ghost use Rattle.grid.specs.Meaning.{graph_of};
+ghost use Rattle.grid.specs.Rows.{vertex_words, row_end};
 ghost use Rattle.rows.specs.Marks.{marked};
 ghost use Rattle.store.specs.Outside.{next_outside};
 
 use crate::Grid;
 use crate::counts::row_count;
+use crate::words::VERTEX_WORDS;
 use model::Vertex;
 use rows::marks::Marks;
 use store::Map;
@@ -16,10 +18,10 @@ impl<'a> Grid<'a> {
     // The row of a vertex.
     fn row(&self, u: Vertex) -> &[u64]
         requires { u < self.now.n }
-        ensures { result.now ≡ slice_range self.now.words.now (4 * u) (4 * u + 4) }
+        ensures { result.now ≡ slice_range self.now.words.now (vertex_words * u) (row_end u) }
     {
-        let at = 4 * u as usize;
-        &self.words[at..at + 4]
+        let at = VERTEX_WORDS * u as usize;
+        &self.words[at..at + VERTEX_WORDS]
     }
 
     // Whether an edge joins two vertices: one bit.

@@ -1,26 +1,29 @@
-// Writes to the words of a whole grid, four to a row.
+// Writes to the words of a whole grid.
 ghost use Rattle.std.specs.Prelude.{◌≡◌, ℕ, ◌+◌, ◌*◌, ◌<◌, ◌≤◌, ◌&&◌, length, drop, if◌then◌else◌, ◌==◌};
 ghost use Rattle.graph.specs.Graph.{same_edge};
 ghost use Rattle.bits.specs.Bits.{has};
-ghost use Rattle.grid.specs.Rows.{wiped};
+ghost use Rattle.grid.specs.Rows.{vertex_words, vertex_bits, row_end, wiped};
 
 use model::Vertex;
 
+// How many words the row of a vertex takes.
+pub(crate) const VERTEX_WORDS: usize = 4;
+
 // Sets or clears bit v of u's row.
 fn set_bit(words: &mut [u64], u: Vertex, v: Vertex, on: bool)
-    requires { (4 * u + 4 ≤ length words.old) × (v < 256) }
-    ensures bits { (a b : ℕ) → b < 256 → has words.new (4 * a) b ≡ (if u == a && v == b then on else has words.old (4 * a) b) }
-    ensures rest { (m : ℕ) → 4 * u + 4 ≤ m → drop m words.new ≡ drop m words.old }
+    requires { (row_end u ≤ length words.old) × (v < vertex_bits) }
+    ensures bits { (a b : ℕ) → b < vertex_bits → has words.new (vertex_words * a) b ≡ (if u == a && v == b then on else has words.old (vertex_words * a) b) }
+    ensures rest { (m : ℕ) → row_end u ≤ m → drop m words.new ≡ drop m words.old }
 {
-    let at = 4 * u as usize;
-    bits::set(&mut words[at..at + 4], v, on);
+    let at = VERTEX_WORDS * u as usize;
+    bits::set(&mut words[at..at + VERTEX_WORDS], v, on);
 }
 
 // Sets or clears the two bits of the edge between u and v.
 pub(crate) fn set_edge(words: &mut [u64], u: Vertex, v: Vertex, on: bool)
-    requires { (4 * u + 4 ≤ length words.old) × ((4 * v + 4 ≤ length words.old) × ((u < 256) × (v < 256))) }
-    ensures bits { (a b : ℕ) → b < 256 → has words.new (4 * a) b ≡ (if same_edge u v a b then on else has words.old (4 * a) b) }
-    ensures rest { (m : ℕ) → 4 * u + 4 ≤ m → 4 * v + 4 ≤ m → drop m words.new ≡ drop m words.old }
+    requires { (row_end u ≤ length words.old) × ((row_end v ≤ length words.old) × ((u < vertex_bits) × (v < vertex_bits))) }
+    ensures bits { (a b : ℕ) → b < vertex_bits → has words.new (vertex_words * a) b ≡ (if same_edge u v a b then on else has words.old (vertex_words * a) b) }
+    ensures rest { (m : ℕ) → row_end u ≤ m → row_end v ≤ m → drop m words.new ≡ drop m words.old }
 {
     set_bit(words, u, v, on);
     set_bit(words, v, u, on);
@@ -28,8 +31,8 @@ pub(crate) fn set_edge(words: &mut [u64], u: Vertex, v: Vertex, on: bool)
 
 // Writes 0 into the words of n rows.
 pub(crate) fn wipe_rows(words: &mut [u64], n: u16)
-    requires { 4 * n ≤ length words.old }
+    requires { vertex_words * n ≤ length words.old }
     ensures { words.new ≡ wiped n words.old }
 {
-    words[..4 * n as usize].fill(0);
+    words[..VERTEX_WORDS * n as usize].fill(0);
 }

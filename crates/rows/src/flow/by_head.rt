@@ -1,10 +1,10 @@
 // What a search and a flow ask of a set of arcs, and the writes. That a set lies over the same words
 // after a write (`same_reference`) has to be said of each.
-ghost use Rattle.std.specs.Prelude.{◌≡◌, ℕ, ◌-◌, ◌<◌, ◌≤◌, true, false, ◌||◌, length};
+ghost use Rattle.std.specs.Prelude.{◌≡◌, ℕ, ◌-◌, ◌*◌, ◌<◌, ◌≤◌, true, false, ◌||◌, ◌++◌, length, drop, replicate};
 ghost use Rattle.graph.specs.Graph.{first};
 ghost use Rattle.bits.specs.Bits.{has};
 ghost use Rattle.rows.specs.Flow.{carried, with_arc, without_arc};
-ghost use Rattle.rows.specs.Layout.{set_words, set_limit, arc_words};
+ghost use Rattle.rows.specs.Layout.{set_words, set_limit, row_words, arc_words};
 ghost use Rattle.rows.specs.Marks.{marked};
 
 use super::Arcs;
@@ -12,6 +12,14 @@ use crate::marks::{Marks, SET_WORDS};
 
 // How many words a row takes.
 const ROW_WORDS: usize = 8;
+
+// Writes 0 into the rows of so many heads.
+fn wipe_rows(words: &mut [u64], heads: u16)
+    requires { row_words * heads ≤ length words.old }
+    ensures { words.new ≡ replicate (row_words * heads) 0 ++ drop (row_words * heads) words.old }
+{
+    words[..ROW_WORDS * heads as usize].fill(0);
+}
 
 impl<'a> Arcs<'a> {
     // A set with no heads yet, and so with no arcs.
@@ -25,13 +33,14 @@ impl<'a> Arcs<'a> {
     }
 
     // Takes every arc away, and gives the set so many heads. Only their rows are written.
+    #[tactic(auto, using(crate::proofs::Heads::none_carried))]
     pub fn wipe(&mut self, heads: u16)
         requires { heads ≤ set_limit }
         ensures arcs { carried self.new ≡ (λ x y. false) }
         ensures heads { self.new.heads ≡ heads }
         ensures same_reference { self.new.words.ghost_name ≡ self.old.words.ghost_name }
     {
-        self.words[..ROW_WORDS * heads as usize].fill(0);
+        wipe_rows(self.words, heads);
         self.heads = heads;
     }
 

@@ -1,6 +1,7 @@
-use Rattle.std.proofs.Common.{◌+◌, ◌*◌, ap, length, ◌∙◌, arith}
+use Rattle.std.proofs.Common.{◌*◌, ap, length, ◌∙◌, arith}
 use Rattle.std.proofs.lemmas.List.Edits.{length-between}
 use Rattle.rows.specs.Marks.{marked}
+use Rattle.grid.specs.Rows.{vertex_words, row_end}
 use Rattle.grid.proofs.Spans.{part_outside, grid_outside}
 use Rattle.grid.proofs.Whole.{simple_of}
 use Rattle.grid.proofs.Grid.lowest_outside.Goals as goal
@@ -8,7 +9,7 @@ use Rattle.grid.proofs.Grid.lowest_outside.Goals as goal
 pub next_outside-requires : goal.next_outside-requires
 next_outside-requires c =
     let s = c.args.self.now in
-    omega (arith, ap length c.row.ensures, length-between s.words.now (4 * c.args.u) (4 * c.args.u + 4) (omega (arith, s.room)))
+    omega (arith, ap length c.row.ensures, length-between s.words.now (vertex_words * c.args.u) (row_end c.args.u) (omega (arith, s.room)))
 
 pub returns-clause-value : goal.returns-clause-value
 returns-clause-value c =
