@@ -47,7 +47,8 @@ fn leads_on<P: Plan>(
 ) -> bool
     requires { t < node_limit }
     ensures value { result ≡ is_some (way_on (P.Plan.digraph plan.old) (carried flow.now) (marked closed.now) q) }
-    ensures notes { notes.new.before.now ≡ on_noted (way_on (P.Plan.digraph plan.old) (carried flow.now) (marked closed.now) q) q t notes.old.before.now }
+    ensures notes { notes.new.before.now
+        ≡ on_noted (way_on (P.Plan.digraph plan.old) (carried flow.now) (marked closed.now) q) q t notes.old.before.now }
     ensures same { plan.new ≡ plan.old }
     ensures same_reference { notes.new.before.ghost_name ≡ notes.old.before.ghost_name }
 {
@@ -70,8 +71,11 @@ pub(crate) fn finds_goal<P: Plan>(
     q: u16,
 ) -> bool
     requires { IfSome goal (λ t. t < node_limit) }
-    ensures value { result ≡ goal_from goal (marked closed.now) (way_on (P.Plan.digraph plan.old) (carried flow.now) (marked closed.now) q) q }
-    ensures notes { notes.new.before.now ≡ goal_noted goal (marked closed.now) (way_on (P.Plan.digraph plan.old) (carried flow.now) (marked closed.now) q) q notes.old.before.now }
+    ensures value { result
+        ≡ goal_from goal (marked closed.now) (way_on (P.Plan.digraph plan.old) (carried flow.now) (marked closed.now) q) q }
+    ensures notes { notes.new.before.now
+        ≡ goal_noted goal (marked closed.now) (way_on (P.Plan.digraph plan.old) (carried flow.now) (marked closed.now) q) q
+        notes.old.before.now }
     ensures same { plan.new ≡ plan.old }
     ensures same_reference { notes.new.before.ghost_name ≡ notes.old.before.ghost_name }
 {
