@@ -1,5 +1,6 @@
 -- Two sets of words put together, word by word.
 --
+--   word_both      the bits of two words
 --   joined_to      the words below i have the numbers of both sets, the others those of the first
 --   joined_none    before any word is
 --   joined_more    word i too
@@ -11,6 +12,10 @@ use Rattle.std.proofs.lemmas.Bool.{cases_eq, cases_lt, lt-ltb, le-ltb, and_right
 use Rattle.bits.specs.Bits.{bit, has}
 use Rattle.bits.proofs.Bits.{bit-or}
 use Rattle.bits.proofs.Parts.{has_past}
+
+-- A bit of two words is one of either.
+pub word_both : (x y j : ℕ) → bit (bit_or x y) j ≡ (bit x j || bit y j)
+word_both x y j = bit-or x y j
 
 -- Whether number j is in the words below i of two sets, or in the others of the first.
 abbrev pub joined_to : List ℕ → List ℕ → ℕ → ℕ → Bool
@@ -29,17 +34,17 @@ joined_all xs ys n j size same =
     ap (λ (b : Bool). has xs 0 j || b) (and_right (ltb (j / 64) n) (has ys 0 j) off ∙ sym off))
     (cases_lt (j / 64) n)
 
--- Word i is put together too.
-module _ (xs ys zs : List ℕ) (i : ℕ) (fits : i < length zs) (so : (j : ℕ) → has zs 0 j ≡ joined_to xs ys i j) where
+-- Word i is put together too, and is y.
+module _ (xs ys zs : List ℕ) (i y : ℕ) (fits : i < length zs) (both : (j : ℕ) → bit y j ≡ (bit (get_or zs i 0) j || bit (get_or ys i 0) j))
+    (so : (j : ℕ) → has zs 0 j ≡ joined_to xs ys i j) where
   -- The numbers of word i are those of both sets, and the others are as they were.
-  pub joined_more : (j : ℕ) → has (set zs i (bit_or (get_or zs i 0) (get_or ys i 0))) 0 j ≡ joined_to xs ys (i + 1) j
+  pub joined_more : (j : ℕ) → has (set zs i y) 0 j ≡ joined_to xs ys (i + 1) j
   joined_more j =
-      let y = bit_or (get_or zs i 0) (get_or ys i 0) in
       let k = 0 + j / 64 in
       ⊎_elim
       (λ e. ap (λ (z : ℕ). bit (get_or (set zs i y) z 0) (j % 64)) e
       ∙ ap (λ (z : ℕ). bit z (j % 64)) (get_or-set_same zs i y 0 fits)
-      ∙ bit-or (get_or zs i 0) (get_or ys i 0) (j % 64)
+      ∙ both (j % 64)
       ∙ ap (λ (z : ℕ). bit (get_or zs z 0) (j % 64) || bit (get_or ys z 0) (j % 64)) (sym e)
       ∙ ap (λ (b : Bool). b || has ys 0 j) (so j)
       ∙ ap (λ (b : Bool). (has xs 0 j || (b && has ys 0 j)) || has ys 0 j) (le-ltb (j / 64) i (omega arith))

@@ -75,13 +75,21 @@ fn word_outside(word: u64, other: u64) -> u64
     word & !other
 }
 
+// The numbers of two words.
+#[tactic(auto, using(crate::proofs::Joins::word_both))]
+fn word_joined(word: u64, other: u64) -> u64
+    ensures { (j : ℕ) → bit result j ≡ (bit word j || bit other j) }
+{
+    word | other
+}
+
 // Puts the numbers of another set in, which has as many words.
 pub fn join(words: &mut [u64], others: &[u64])
     requires { length words.old ≡ length others.now }
     ensures { (j : ℕ) → has words.new 0 j ≡ (has words.old 0 j || has others.now 0 j) }
 {
     for i in 0..words.len() {
-        words[i] |= others[i];
+        words[i] = word_joined(words[i], others[i]);
     }
 }
 

@@ -1,6 +1,6 @@
 // How a search finds its goal: at a node, one step on from it, or two steps on. It looks two steps
 // ahead by a set: the nodes from which no arc with room leads to the goal. The others are open.
-ghost use Rattle.std.specs.Prelude.{◌≡◌, ◌<◌, IfSome, is_some};
+ghost use Rattle.std.specs.Prelude.{◌≡◌, ℕ, ◌<◌, ◌||◌, IfSome, is_some};
 ghost use Rattle.graph.specs.Graph.{node_limit};
 ghost use Rattle.flows.specs.Flow.{Digraph};
 ghost use Rattle.rows.specs.Flow.{carried};
@@ -31,7 +31,8 @@ pub fn far_from<P: Plan>(plan: &mut P, t: u16) -> Marks
 // The nodes from which no arc with room leads to t: those from which no arc does, and those from
 // which the flow goes to t already.
 pub fn closed_to(flow: &Arcs<'_>, far: &Marks, t: u16) -> Marks
-    ensures { (d : Digraph) → Far d t (marked far.now) → Closed d (carried flow.now) t (marked result) }
+    ensures nodes { (q : ℕ) → marked result q ≡ (marked far.now q || carried flow.now q t) }
+    ensures closed { (d : Digraph) → Far d t (marked far.now) → Closed d (carried flow.now) t (marked result) }
 {
     flow.with_tails(t, far)
 }
