@@ -1,14 +1,14 @@
 -- The flow of a run goes from end to end: no arc leads to its first end, and none out of the other. Where no
 -- arc with room leads to that one either, no residual path does.
 --
---   none_open       where none below n is the first not marked, all are marked
+--   none_open       none below n is the first not in a set exactly where all are in it
 --   cut_off         the end is not reached
 --   pushed_none_out, pushed_none_in   after a push along a route none leads out of its end, or to its beginning
-use Rattle.std.proofs.Common.{◌≡◌, ℕ, ◌-◌, ◌<◌, Bool, true, false, not, ◌&&◌, eqb, List, [], ◌∷◌, Some, None, Option, sym, refl, ap, ◌∙◌, ⊎_elim, arith}
+use Rattle.std.proofs.Common.{◌≡◌, ℕ, ◌-◌, ◌<◌, ◌↔◌, Bool, true, false, not, ◌&&◌, eqb, List, [], ◌∷◌, Some, None, Option, sym, refl, ap, ◌∙◌, ⊎_elim, arith}
 use Rattle.std.specs.Option.{is_none}
 use Rattle.std.proofs.lemmas.Bool.{both_ways, cases_Bool, or_cases, or_from, and_left, and_right, ne_eqb, not-true, not-false}
 use Rattle.graph.specs.Graph.{first}
-use Rattle.graph.proofs.Firsts.{first_all}
+use Rattle.graph.proofs.Firsts.{first_all, first_some}
 use Rattle.flows.specs.Lists.{among}
 use Rattle.flows.specs.Routes.{Walk, Apart}
 use Rattle.flows.specs.Flow.{Digraph, residual, residual_side, stepped, pushed}
@@ -18,11 +18,14 @@ use Rattle.search.specs.Goals.{Closed}
 use Rattle.search.specs.Steps.{along}
 use Rattle.connectivity.specs.Runs.{NoneInto, NoneOutOf}
 
--- Where the lowest number below n that is not in a set is none, all are in it.
-pub none_open : (set : ℕ → Bool) (n : ℕ) (lowest : Option ℕ) → lowest ≡ first (λ k. not (set k)) 0 (n - 0) → is_none lowest ≡ true → (q : ℕ) → q < n
-    → set q ≡ true
-none_open set n None h e q l = not-false (set q) (first_all (λ k. not (set k)) 0 n (sym h) q (omega arith) l)
-none_open set n (Some v) h e q l = absurd (both_ways false refl e)
+-- The lowest number below n that is not in a set is none exactly where all are in it.
+pub none_open : (set : ℕ → Bool) (n : ℕ) (lowest : Option ℕ) → lowest ≡ first (λ k. not (set k)) 0 (n - 0)
+    → (is_none lowest ≡ true) ↔ ((q : ℕ) → q < n → set q ≡ true)
+none_open set n None h = (λ e q l. not-false (set q) (first_all (λ k. not (set k)) 0 n (sym h) q (omega arith) l), λ all. refl)
+none_open set n (Some v) h = (
+  λ e. absurd (both_ways false refl e),
+  λ all. let f = first_some (λ k. not (set k)) 0 n v (sym h) in absurd (both_ways (set v) (not-true (set v) f.here) (all v f.below)),
+)
 
 module _ (d : Digraph) (f : ℕ → ℕ → Bool) (s t : ℕ) (below : s < d.nodes) (apart : s ≡ t → ⊥) (ends : NoneOutOf f t) (closed : ℕ → Bool)
     (sets : Closed d f t closed) (all : (q : ℕ) → q < d.nodes → closed q ≡ true) where

@@ -4,7 +4,7 @@
 // run is to its plan (`asked`) and to its flow (`Held`, `Largest`) is asked at each call too, and can't
 // be a fact of its type. Flow and scratch memory go side by side, since a finished run takes the flow
 // for reading only.
-ghost use Rattle.std.specs.Prelude.{◌≡◌, ℕ, ◌+◌, ◌^◌, ◌<◌, ◌≤◌, true, false, length};
+ghost use Rattle.std.specs.Prelude.{◌≡◌, ℕ, ◌+◌, ◌^◌, ◌<◌, ◌≤◌, true, false, IsTrue, ◌↔◌, length};
 ghost use Rattle.flows.specs.Flow.{residual, residual_side};
 ghost use Rattle.augment.specs.Trails.{Trail};
 ghost use Rattle.rows.specs.Flow.{carried};
@@ -38,7 +38,7 @@ impl RunCount {
 
 // Whether every node of a plan is marked.
 fn marks_all<P: CutPlan>(plan: &mut P, marks: &Marks) -> bool
-    ensures all { result ≡ true → (q : ℕ) → q < (P.Plan.digraph plan.old).nodes → marked marks.now q ≡ true }
+    ensures all { IsTrue result ↔ ((q : ℕ) → q < (P.Plan.digraph plan.old).nodes → marked marks.now q ≡ true) }
     ensures same { plan.new ≡ plan.old }
 {
     let n = plan.node_count();
@@ -75,6 +75,7 @@ impl Searching {
         ensures counted { count.new.begun ≡ count.old.begun + 1 }
         ensures same { plan.new ≡ plan.old }
         ensures run { result ≡ record { from = from; to = to; value = 0 } }
+        ensures none { carried flow.new ≡ (λ x y. false) }
         ensures held { Held (P.Plan.digraph plan.old) result flow.new }
     {
         count.begun += 1;

@@ -66,12 +66,12 @@ impl<S: Editable> Map for Strike<S> {
 
     // The lowest neighbour of u that is w or more and not in a set: the store's, past the struck ones.
     fn next_outside(&mut self, u: Vertex, w: Vertex, set: &rows::marks::Marks) -> Option<Vertex> {
-        let mut from = w;
-        while let Some(v) = self.store.next_outside(u, from, set) {
+        let mut low = w;
+        while let Some(v) = self.store.next_outside(u, low, set) {
             if !self.marks.has(u, v) {
                 return Some(v);
             }
-            from = v + 1;
+            low = v + 1;
         }
         None
     }

@@ -11,4 +11,4 @@ returns-then-marks_all-clause-stuck g c _ =
     let d = g.P.Plan.digraph p in
     let ends = g.met.P.CutPlan.two p run.from run.to c.requires.asked in
     cut_off d (carried c.args.flow.now) run.from run.to ends.0 ends.2 c.requires.ends (marked c.closed_to-closed.result)
-    (c.closed_to-closed.ensures.closed d c.requires.far) (c.marks_all.ensures.all c.if-marks_all.true)
+    (c.closed_to-closed.ensures.closed d c.requires.far) (c.marks_all.ensures.all.0 c.if-marks_all.true)
