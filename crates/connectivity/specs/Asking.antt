@@ -12,8 +12,8 @@ use Rattle.model.specs.Table.{Reply}
 use Rattle.model.specs.declared.refusal.Refusal.{Refusal}
 use Rattle.model.specs.declared.refusal.Refusal.TheVariants.{ShortMemory, Adjacent}
 use Rattle.store.specs.Ends.{ends_reply as two_reply}
+use Rattle.flows.specs.Lists.{in_front}
 use Rattle.cuts.specs.Cuts.{edge_value, vertex_value}
-use Rattle.plan.specs.Buffers.{in_front}
 use Rattle.connectivity.specs.declared.work.Sizes.{Sizes}
 use Rattle.connectivity.specs.Work.{short}
 

@@ -1,7 +1,7 @@
 // What is asked of a pair of vertices: its value, and the smallest cut nearest to the first one.
 ghost use Rattle.std.specs.Prelude.{◌≡◌, ◌≤◌, false, length, is_ok, if◌then◌else◌};
+ghost use Rattle.flows.specs.Lists.{in_front};
 ghost use Rattle.cuts.specs.Cuts.{nearest_edge_cut, nearest_vertex_cut};
-ghost use Rattle.plan.specs.Buffers.{in_front};
 ghost use Rattle.connectivity.specs.Asking.{sizes_of, ends_reply, loose_reply, edge_reply, vertex_reply, cut_in};
 
 use crate::run::{RunCount, complete};

@@ -5,11 +5,11 @@
 // be a fact of its type. Flow and scratch memory go side by side, since a finished run takes the flow
 // for reading only.
 ghost use Rattle.std.specs.Prelude.{◌≡◌, ℕ, ◌+◌, ◌^◌, ◌<◌, ◌≤◌, true, false, IsTrue, ◌↔◌, length};
+ghost use Rattle.flows.specs.Lists.{in_front};
 ghost use Rattle.flows.specs.Flow.{residual, residual_side};
 ghost use Rattle.augment.specs.Trails.{Trail};
 ghost use Rattle.rows.specs.Flow.{carried};
 ghost use Rattle.rows.specs.Marks.{marked};
-ghost use Rattle.plan.specs.Buffers.{in_front};
 ghost use Rattle.search.specs.Goals.{Far};
 ghost use Rattle.connectivity.specs.Runs.{NoneOutOf, Held, Largest, grown, PushedOn, EndedAt};
 

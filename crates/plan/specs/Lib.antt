@@ -1,4 +1,3 @@
-pub mod Buffers
 pub mod Pairs
 pub mod Plans
 pub mod Nodes

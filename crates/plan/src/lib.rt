@@ -4,11 +4,11 @@
 #![tactic(auto)]
 
 ghost use Rattle.std.specs.Prelude.{◌≡◌, ℕ, ◌<◌, ◌≤◌, Bool, false, List, length, ◌≢◌};
+ghost use Rattle.flows.specs.Lists.{in_front};
 ghost use Rattle.flows.specs.Flow.{Digraph, Sound, Flow, residual_side};
 ghost use Rattle.rows.specs.Marks.{marked};
 ghost use Rattle.graph.specs.Graph.{node_limit};
 ghost use Rattle.plan.specs.Plans.{next_arc, arc_outside};
-ghost use Rattle.plan.specs.Buffers.{in_front};
 
 mod buffer;
 mod line;

@@ -1,20 +1,22 @@
--- The edge computation: its strength is the edge connectivity, no cut is smaller, and the pair
--- that it names has that value.
-use Rattle.std.proofs.Common.{◌≡◌, ℕ, ◌<◌, ◌≤◌, Bool, true, false, cond, not, ◌&&◌, ◌||◌, eqb, ltb, ◌⊎◌, List, [], ◌∷◌, map, length, Some, filter, sym, refl, ap, ◌∙◌, ap₂, inl, inr, arith}
+-- The edge computation: its strength is the edge connectivity, no cut is smaller, the pair that
+-- it names has that value, its cut parts that pair, and its runs have the values of theirs.
+use Rattle.std.proofs.Common.{◌≡◌, ℕ, ◌<◌, ◌≤◌, Bool, true, false, cond, not, ◌&&◌, ◌||◌, eqb, ltb, ◌⊎◌, List, [], ◌∷◌, map, length, Some, filter, sym, refl, ap, ◌∙◌, ap₂, subst, inl, inr, arith}
 use mathlib.Core.Path.{fun_ext}
 use Rattle.std.proofs.lemmas.Bool.Decides.{nat_tests}
 use Rattle.std.proofs.lemmas.Bool.{cases_eq, cases_Bool, cond-true, cond-false, cond_both, ltb-true, ltb-false, eq-eqb, eqb-true, ne_eqb}
 use Rattle.graph.specs.Graph.{Graph, Simple}
 use Rattle.cuts.specs.declared.edge.Edge.{Edge}
-use Rattle.cuts.specs.Cuts.{edge_value, nearest_edge_cut, is_edge_cut, edge_connectivity}
+use Rattle.cuts.specs.declared.run.Run.{Run}
+use Rattle.cuts.specs.Cuts.{edges_part, edge_value, nearest_edge_cut, is_edge_cut, edge_connectivity}
 use Rattle.cuts.specs.Edges.{edge_list}
 use Rattle.cuts.specs.Pairs.{crossing_edges, EdgeValueLaws}
-use Rattle.cuts.specs.Computations.{Run, Computed, least_degree, sparsest, least_value, first_with, pair_of, edge_runs, edges_at, edge_computation}
+use Rattle.cuts.specs.Computations.{Computed, least_degree, sparsest, least_value, first_with, pair_of, edge_runs, edges_at, edge_computation}
 use Rattle.cuts.specs.Choices.{In, smallest, size}
-use Rattle.cuts.proofs.Standing.{find_in}
+use Rattle.cuts.proofs.Smallest.{Sub, kept_sub, smallest_each}
+use Rattle.cuts.proofs.Standing.{find_in, sub_in}
 use Rattle.cuts.proofs.EdgeLists.{edge_out, crossing_count}
 use Rattle.cuts.proofs.EdgeNearest.{nearest_edge_cut_laws, parts_turn}
-use Rattle.strength.specs.Strength.{NoSmallerEdgeCut, EdgeStrength, EdgePair, EdgeCutFound}
+use Rattle.strength.specs.Strength.{EdgeRunsTrue, NoSmallerEdgeCut, EdgeStrength, EdgePair, EdgeCutFound, EdgeCutParts}
 use Rattle.strength.proofs.EdgeLists.{map_item, least_default, least_is}
 use Rattle.strength.proofs.EdgeCrossing.{crossing_parts, rest, rest_self, rest_parts, rest_left}
 use Rattle.strength.proofs.EdgeValues.{value_below, value_degree, value_met, parts_cut, cut_parts, connectivity_below, connectivity_met}
@@ -107,31 +109,6 @@ pair_sparsest : (g : Graph) → ltb (lowest g) (least_degree g) ≡ false → (e
 unfolding edge_computation another
 pair_sparsest g e = ap (λ (c : Computed Edge). c.pair) (cond-false (ltb (lowest g) (least_degree g)) _ _ e)
 
--- In both cases its value is the strength.
-pub edge_pair_lem : EdgePair
-edge_pair_lem g ok two =
-    elim (cases_Bool (ltb (lowest g) (least_degree g))) [
-      | inl e ↦
-          (elim (lowest_met g) [
-            | inl z ↦ absurd (omega (arith, z, ltb-true _ _ e))
-            | inr m ↦
-                (let r = first_with (lowest g) (edge_runs g) in
-                let h = honest g ok r m.0 in
-                (r.from, r.to, pair_run g e, h.from_in, h.to_in, h.differ, sym h.valued ∙ m.1 ∙ sym (strength_is g)))
-          ])
-      | inr e ↦
-          (let r = sparsest_is g ok in
-          let x = another_is g.order (sparsest g) two in (
-            sparsest g,
-            another (sparsest g),
-            pair_sparsest g e,
-            r.0,
-            x.0,
-            x.1,
-            omega (arith, ltb-false _ _ e, lowest_below g, strength_is g, r.1, value_lowest g ok _ _ r.0 x.0 x.1, value_degree g ok _ (another (sparsest g)) r.0 x.1),
-          ))
-    ]
-
 -- The cut where a run is below the least degree, and where none is.
 cut_run : (g : Graph) → ltb (lowest g) (least_degree g) ≡ true
     → (edge_computation g).cut ≡ nearest_edge_cut g (first_with (lowest g) (edge_runs g)).from (first_with (lowest g) (edge_runs g)).to
@@ -155,45 +132,101 @@ edges_at_cross g r = kept_same _ _ (edge_list g) (λ e i. one_end e.low e.high (
     one_end : (l h : ℕ) → l < h → (eqb l r || eqb h r) ≡ ((eqb l r && not (eqb h r)) || (eqb h r && not (eqb l r)))
     one_end l h lt = grind (arith, nat_tests)
 
--- The cut that comes out is an edge cut of the strength's size.
-pub edge_cut_found_lem : EdgeCutFound
-edge_cut_found_lem g ok two =
+-- The named pair and the cut: two different vertices whose value is the strength, and as many
+-- edges of the graph, which part them.
+pub record Shown (g : Graph) : Type 0 where
+  pub from : ℕ
+  pub to : ℕ
+  pub named : (edge_computation g).pair ≡ Some (from, to)
+  pub from_in : from < g.order
+  pub to_in : to < g.order
+  pub differ : from ≡ to → ⊥
+  pub valued : edge_value g from to ≡ (edge_computation g).strength
+  pub edges : Sub (edge_computation g).cut (edge_list g)
+  pub parted : edges_part g from to (edge_computation g).cut ≡ true
+  pub sized : length (edge_computation g).cut ≡ (edge_computation g).strength
+
+-- Where a run is below the least degree, they are the first such run and its nearest cut.
+shown_run : (g : Graph) → Simple g → ltb (lowest g) (least_degree g) ≡ true → In (first_with (lowest g) (edge_runs g)) (edge_runs g)
+    → (first_with (lowest g) (edge_runs g)).value ≡ lowest g → Shown g
+shown_run g ok e i least =
+    let r = first_with (lowest g) (edge_runs g) in
+    let h = honest g ok r i in
+    let laws = nearest_edge_cut_laws g r.from r.to ok h.from_in h.to_in h.differ in
+    let near = laws.1 (nearest_edge_cut g r.from r.to) laws.0 in
+    let sub = (smallest_each (edges_part g r.from r.to) (edge_list g) _ laws.0).0 in
+    let worth = sym h.valued ∙ least ∙ sym (strength_is g) in
+    record {
+      from = r.from;
+      to = r.to;
+      named = pair_run g e;
+      from_in = h.from_in;
+      to_in = h.to_in;
+      differ = h.differ;
+      valued = worth;
+      edges = subst (λ (c : List Edge). Sub c (edge_list g)) (sym (cut_run g e)) sub;
+      parted = ap (edges_part g r.from r.to) (cut_run g e) ∙ near.0;
+      sized = ap length (cut_run g e) ∙ near.1 ∙ worth;
+    }
+
+-- Where none is, they are the sparsest vertex beside another, and the edges at it.
+shown_sparsest : (g : Graph) → Simple g → 2 ≤ g.order → ltb (lowest g) (least_degree g) ≡ false → Shown g
+shown_sparsest g ok two e =
+    let r = sparsest_is g ok in
+    let s = sparsest g in
+    let x = another_is g.order s two in
+    let b = another s in
+    let alone = ne_eqb b s (λ q. x.1 (sym q)) in
+    let at = cut_sparsest g e ∙ edges_at_cross g s in
+    let count = leaving_one g ok s in
+    let size = crossing_count g ok (λ q. eqb q s) in
+    let most = value_below g ok (λ q. eqb q s) s b r.0 (eq-eqb s s refl) alone in
+    let least = value_lowest g ok s b r.0 x.0 x.1 in
+    let bound = ltb-false _ _ e in
+    record {
+      from = s;
+      to = b;
+      named = pair_sparsest g e;
+      from_in = r.0;
+      to_in = x.0;
+      differ = x.1;
+      valued = omega (arith, bound, lowest_below g, strength_is g, r.1, count, most, least);
+      edges =
+          subst (λ (c : List Edge). Sub c (edge_list g)) (sym (cut_sparsest g e))
+          (kept_sub (λ (y : Edge). eqb y.low s || eqb y.high s) (edge_list g));
+      parted = ap (edges_part g s b) at ∙ crossing_parts g ok (λ q. eqb q s) s b r.0 (eq-eqb s s refl) alone;
+      sized = ap length at ∙ omega (arith, size, count, r.1, bound, lowest_below g, strength_is g, most, least);
+    }
+
+-- So there are such in both cases.
+pub edge_shown : (g : Graph) → Simple g → 2 ≤ g.order → Shown g
+edge_shown g ok two =
     elim (cases_Bool (ltb (lowest g) (least_degree g))) [
       | inl e ↦
           (elim (lowest_met g) [
             | inl z ↦ absurd (omega (arith, z, ltb-true _ _ e))
-            | inr m ↦
-                (let r = first_with (lowest g) (edge_runs g) in
-                let h = honest g ok r m.0 in
-                let laws = nearest_edge_cut_laws g r.from r.to ok h.from_in h.to_in h.differ in
-                let near = laws.1 (nearest_edge_cut g r.from r.to) laws.0 in (
-                  ap (is_edge_cut g) (cut_run g e) ∙ parts_cut g ok _ r.from r.to h.from_in h.to_in near.0,
-                  ap length (cut_run g e) ∙ near.1 ∙ sym h.valued ∙ m.1 ∙ sym (strength_is g),
-                ))
+            | inr m ↦ shown_run g ok e m.0 m.1
           ])
-      | inr e ↦
-          (let r = sparsest_is g ok in
-          let s = sparsest g in
-          let x = another_is g.order s two in
-          let b = another s in
-          let at = cut_sparsest g e ∙ edges_at_cross g s in
-          let part = crossing_parts g ok (λ q. eqb q s) s b r.0 (eq-eqb s s refl) (ne_eqb b s (λ q. x.1 (sym q))) in
-          let size = crossing_count g ok (λ q. eqb q s) in (
-            ap (is_edge_cut g) at ∙ parts_cut g ok _ s b r.0 x.0 part,
-            ap length at ∙ omega (
-              arith,
-              size,
-              leaving_one g ok s,
-              r.1,
-              ltb-false _ _ e,
-              lowest_below g,
-              strength_is g,
-              value_below g ok (λ q. eqb q s) s b r.0 (eq-eqb s s refl) (ne_eqb b s (λ q. x.1 (sym q))),
-              value_lowest g ok s b r.0 x.0 x.1,
-            ),
-          ))
+      | inr e ↦ shown_sparsest g ok two e
     ]
 
+-- The value of the named pair is the strength.
+pub edge_pair_lem : EdgePair
+edge_pair_lem g ok two = let s = edge_shown g ok two in (s.from, s.to, s.named, s.from_in, s.to_in, s.differ, s.valued)
+
+-- The cut is an edge cut of the strength's size.
+pub edge_cut_found_lem : EdgeCutFound
+edge_cut_found_lem g ok two =
+    let s = edge_shown g ok two in
+    (parts_cut g ok _ s.from s.to s.from_in s.to_in s.parted, s.sized)
+
+-- It is made of edges of the graph, and parts the named pair.
+pub edge_cut_parts_lem : EdgeCutParts
+edge_cut_parts_lem g ok two =
+    let s = edge_shown g ok two in
+    (s.from, s.to, s.named, λ e i. sub_in s.edges e i, s.parted)
+
+-- The value has no direction.
 value_turn : (g : Graph) → Simple g → (a b : ℕ) → a < g.order → b < g.order → edge_value g a b ≡ edge_value g b a
 unfolding edge_value
 value_turn g ok a b ha hb = ap (λ (p : List Edge → Bool). size (smallest p (edge_list g))) (fun_ext (parts_turn g ok a b ha hb))
@@ -203,3 +236,16 @@ pub edge_value_laws_lem : EdgeValueLaws
 edge_value_laws_lem g a b ok ha hb ne =
     let turn = value_turn g ok a b ha hb in
     (turn, value_degree g ok a b ha ne, omega (arith, turn, value_degree g ok b a hb (λ e. ne (sym e))))
+
+-- The runs are those that were made.
+runs_are : (g : Graph) → (edge_computation g).runs ≡ edge_runs g
+unfolding edge_computation
+runs_are g =
+    cond_both (ltb (lowest g) (least_degree g)) _ _ (λ (c : Computed Edge). c.runs ≡ edge_runs g)
+    (λ _. refl) (λ _. refl)
+
+-- Each has the value of its pair, which are two vertices.
+pub edge_runs_true_lem : EdgeRunsTrue
+edge_runs_true_lem g ok two r i =
+    let h = honest g ok r (subst (λ (rs : List Run). In r rs) (runs_are g) i) in
+    (h.from_in, h.to_in, h.differ, h.valued)

@@ -10,8 +10,9 @@ use Rattle.flows.specs.Routes.{Apart}
 use Rattle.flows.specs.Flow.{leaving}
 use Rattle.flows.proofs.Lists.{any_nil, among_head, among_tail, among_cases, among_upto}
 use Rattle.cuts.specs.declared.edge.Edge.{Edge}
+use Rattle.cuts.specs.declared.run.Run.{Run}
 use Rattle.cuts.specs.Cuts.{edge_value}
-use Rattle.cuts.specs.Computations.{Run, Computed, least_degree, sparsest, least_value, probes, runs_from_first, edge_runs, edge_computation}
+use Rattle.cuts.specs.Computations.{Computed, least_degree, sparsest, least_value, probes, runs_from_first, edge_runs, edge_computation}
 use Rattle.cuts.specs.Choices.{In}
 use Rattle.cuts.proofs.Standing.{find_in, in_upto}
 use Rattle.strength.specs.Strength.{FewEdgeRuns}

@@ -17,6 +17,7 @@ pub mod VertexStrength
 pub mod VertexFew
 pub mod VertexFound
 pub mod Refuted
+pub mod Ends
 pub mod Mapped
 pub mod CutsFit
 pub mod RunsApart

@@ -11,11 +11,7 @@ use Rattle.cuts.specs.Edges.{is_between, has_edge}
 use Rattle.cuts.specs.Choices.{choices, smallest_from, find, least}
 use Rattle.cuts.specs.Cuts.{vertex_value, nearest_vertex_cut, vertex_connectivity}
 use Rattle.cuts.specs.Maps.{graph_of, cliques_and_hub, path_of_three, hub_joins, in_first, in_second}
-use Rattle.strength.specs.Variants.{rounds_with, VariantsRefuted, SevenRefutes, NearEndRefuted}
-
-pub seven_refutes_lem : SevenRefutes
-unfolding count upto any all rounds reached choices smallest_from find least vertex_value vertex_connectivity
-seven_refutes_lem = (refl, refl)
+use Rattle.strength.specs.Variants.{rounds_with, seven, VariantsRefuted, SevenRefutes, HubRefutes, NearEndRefuted}
 
 -- Every listed edge has its lower end first and its higher end below n.
 unfoldable pub good : ℕ → List Edge → Bool
@@ -53,13 +49,25 @@ graph_of_simple n es some small ok = record {
   bounded = λ u v h. let b = has_bounded n es u v ok h in (b.0, b.1.0);
 }
 
+-- The path of three vertices is, and the map of seven.
 pub path_simple : Simple path_of_three
 unfolding good
 path_simple = graph_of_simple 3 _ (omega arith) (omega arith) refl
 
+seven_simple : Simple seven
+unfolding good
+seven_simple = graph_of_simple 7 _ (omega arith) (omega arith) refl
+
+-- On the map of seven vertices the runs from r give 4, and the truth is 3.
+pub seven_refutes_lem : SevenRefutes
+unfolding count upto any all rounds reached choices smallest_from find least vertex_value vertex_connectivity
+seven_refutes_lem = (seven_simple, refl, refl)
+
+-- On the path of three what is read at the near end is the first vertex, and no cut.
 pub near_end_refuted_lem : NearEndRefuted
 unfolding count upto any all rounds reached choices smallest_from find least nearest_vertex_cut
-near_end_refuted_lem h = let t : true ≡ false = sym (h path_of_three 0 2 path_simple refl) in true≢false t
+near_end_refuted_lem h =
+    let t : true ≡ false = sym (h path_of_three 0 2 path_simple (omega arith) (omega arith) (λ e. omega arith) refl) in true≢false t
 
 -- The two cliques and the hub are a simple graph.
 or_swap : (x y : Bool) → (x || y) ≡ (y || x)
@@ -124,10 +132,15 @@ hub_simple = record {
         (λ a. ⊎_elim (spoke u) (spoke u) (or_cases (eqb u 12 && hub_joins u) (eqb u 12 && hub_joins u) a))
         (or_cases (not (eqb u u) && ((in_first u && in_first u) || (in_second u && in_second u))) ((eqb u 12 && hub_joins u) || (eqb u 12 && hub_joins u)) h)
 
+-- On it the runs from r give 2, and the truth is 1.
+pub hub_refutes_lem : HubRefutes
+unfolding count upto any all rounds reached choices smallest_from find least vertex_value vertex_connectivity
+hub_refutes_lem = (hub_simple, refl, refl)
+
 two_is_not_one : ◌≡◌ {A = ℕ} 2 1 → ⊥
 two_is_not_one e = omega arith
 
--- The hub refutes all three.
+-- And it refutes all three.
 pub variants_refuted_lem : VariantsRefuted
 unfolding count upto any all rounds reached choices smallest_from find least vertex_value vertex_connectivity rounds_with
 variants_refuted_lem = (

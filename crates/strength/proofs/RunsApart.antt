@@ -7,15 +7,16 @@ use Rattle.graph.specs.Graph.{Graph, Simple, same_edge}
 use Rattle.graph.proofs.Edges.{same_edge_ends}
 use Rattle.flows.specs.Lists.{upto}
 use Rattle.flows.proofs.Lists.{never_true}
+use Rattle.cuts.specs.declared.run.Run.{Run}
 use Rattle.cuts.specs.Choices.{In}
-use Rattle.cuts.specs.Computations.{Run, least_degree, sparsest, far_runs, vertex_runs}
+use Rattle.cuts.specs.Computations.{least_degree, sparsest, far_runs, vertex_runs}
 use Rattle.cuts.specs.RouteRules.{Pairwise}
 use Rattle.cuts.proofs.RouteFits.{pairwise_append}
 use Rattle.cuts.proofs.Smallest.{in_either, kept_out}
 use Rattle.cuts.proofs.Standing.{Distinct, distinct_kept, distinct_upto}
 use Rattle.cuts.proofs.RouteCounts.{in_list_all}
 use Rattle.strength.proofs.EdgeLists.{map_item}
-use Rattle.strength.proofs.VertexLists.{in_front, up, in_up}
+use Rattle.strength.proofs.VertexLists.{in_taken, up, in_up}
 use Rattle.strength.proofs.VertexRuns.{run_of, place, rounds_from, round, follow}
 use Rattle.strength.proofs.VertexStrength.{runs_are}
 
@@ -32,7 +33,7 @@ distinct_up w (suc m) = (λ i. omega (arith, (in_up (suc w) m w i).0), distinct_
 distinct_front : (t : ℕ) (xs : List ℕ) → Distinct xs → Distinct (take t xs)
 distinct_front zero xs d = tt
 distinct_front (suc t) [] d = tt
-distinct_front (suc t) (x ∷ xs) d = (λ i. d.0 (in_front x t xs i), distinct_front t xs d.1)
+distinct_front (suc t) (x ∷ xs) d = (λ i. d.0 (in_taken x t xs i), distinct_front t xs d.1)
 
 -- Runs from one vertex to different others are of different pairs.
 one_start : (g : Graph) (a : ℕ) (bs : List ℕ) → Distinct bs → ((b : ℕ) → In b bs → b ≡ a → ⊥) → Pairwise Differ (map (run_of g a) bs)
@@ -73,7 +74,7 @@ module _ (g : Graph) (s : Simple g) (r δ : ℕ) where
       let bs = take (δ - 1 - place g s r δ w) (filter (g.joined r) (up (suc w) m)) in
       let c = map_item (run_of g w) run (filter (λ b. not (g.joined w b)) bs) i in
       let k = kept_out (λ b. not (g.joined w b)) c.0 bs c.1 in
-      let q = kept_out (g.joined r) c.0 (up (suc w) m) (in_front c.0 (δ - 1 - place g s r δ w) (filter (g.joined r) (up (suc w) m)) k.0) in
+      let q = kept_out (g.joined r) c.0 (up (suc w) m) (in_taken c.0 (δ - 1 - place g s r δ w) (filter (g.joined r) (up (suc w) m)) k.0) in
       let to_is = ap (λ (x : Run). x.to) c.2 in
       (ap (λ (x : Run). x.from) c.2, omega (arith, to_is, (in_up (suc w) m c.0 q.0).0), ap (g.joined r) to_is ∙ q.1)
 
@@ -84,7 +85,7 @@ module _ (g : Graph) (s : Simple g) (r δ : ℕ) where
       one_start g w (filter (λ b. not (g.joined w b)) bs)
       (distinct_kept (λ b. not (g.joined w b)) bs (distinct_front (δ - 1 - place g s r δ w) (filter (g.joined r) (up (suc w) m)) (distinct_kept (g.joined r) (up (suc w) m) (distinct_up (suc w) m))))
       (λ b i e.
-      let q = kept_out (g.joined r) b (up (suc w) m) (in_front b (δ - 1 - place g s r δ w) (filter (g.joined r) (up (suc w) m)) (kept_out (λ b. not (g.joined w b)) b bs i).0) in
+      let q = kept_out (g.joined r) b (up (suc w) m) (in_taken b (δ - 1 - place g s r δ w) (filter (g.joined r) (up (suc w) m)) (kept_out (λ b. not (g.joined w b)) b bs i).0) in
       omega (arith, (in_up (suc w) m b q.0).0))
 
   -- None of them is of the pair of an earlier run.

@@ -3,8 +3,9 @@ use Rattle.std.proofs.Common.{◌≡◌, ℕ, ◌<◌, ◌≤◌, Bool, true, no
 use Rattle.std.proofs.lemmas.Bool.{cases_Bool, and_from, not_from_false}
 use Rattle.graph.specs.Graph.{Graph, Simple, edges_below, removed}
 use Rattle.graph.proofs.Edges.{same_edge_swap, edges_removed}
+use Rattle.cuts.specs.declared.run.Run.{Run}
 use Rattle.cuts.specs.Choices.{In}
-use Rattle.cuts.specs.Computations.{Run, Computed, vertex_runs, vertex_computation}
+use Rattle.cuts.specs.Computations.{Computed, vertex_runs, vertex_computation}
 use Rattle.cuts.specs.Cuts.{complete}
 use Rattle.cuts.specs.RouteRules.{Pairwise}
 use Rattle.cuts.proofs.RouteCounts.{all_in_list}

@@ -5,8 +5,9 @@ use Rattle.std.proofs.lemmas.Bool.{cases_Bool, and_parts, or_left, eq-eqb, ne_eq
 use Rattle.graph.specs.Graph.{Graph, Simple, count, degree}
 use Rattle.graph.proofs.Counts.{count_zero, count_miss, count_one}
 use Rattle.flows.specs.Lists.{upto}
+use Rattle.cuts.specs.declared.run.Run.{Run}
 use Rattle.cuts.specs.Cuts.{complete}
-use Rattle.cuts.specs.Computations.{Run, Computed, least_degree, sparsest, least_value, first_with, far_runs, vertex_runs, vertex_computation}
+use Rattle.cuts.specs.Computations.{Computed, least_degree, sparsest, least_value, first_with, far_runs, vertex_runs, vertex_computation}
 use Rattle.cuts.specs.Choices.{In}
 use Rattle.cuts.proofs.Smallest.{sub_length, kept_sub}
 use Rattle.cuts.proofs.Standing.{find_in}

@@ -9,10 +9,10 @@ use Rattle.strength.proofs.EdgeLists.{least_default}
 use Rattle.strength.proofs.VertexCounts.{count_up}
 
 -- The front of a list stands in it.
-pub in_front : {X : Type 0} (c : X) (t : ℕ) (xs : List X) → In c (take t xs) → In c xs
-in_front c zero xs i = absurd i
-in_front c (suc t) [] i = absurd i
-in_front c (suc t) (x ∷ xs) i = elim i [ inl e ↦ inl e | inr j ↦ inr (in_front c t xs j) ]
+pub in_taken : {X : Type 0} (c : X) (t : ℕ) (xs : List X) → In c (take t xs) → In c xs
+in_taken c zero xs i = absurd i
+in_taken c (suc t) [] i = absurd i
+in_taken c (suc t) (x ∷ xs) i = elim i [ inl e ↦ inl e | inr j ↦ inr (in_taken c t xs j) ]
 
 -- The least of some numbers is no more than any of them, and than the default.
 pub least_below : {X : Type 0} (f : X → ℕ) (d : ℕ) (xs : List X) (x : X) → In x xs → least d (map f xs) ≤ f x

@@ -4,13 +4,14 @@
 use Rattle.std.proofs.Common.{◌≡◌, ℕ, zero, suc, ◌+◌, ◌-◌, ◌<◌, ◌≤◌, Bool, true, false, not, ◌&&◌, leb, ◌⊎◌, List, [], ◌∷◌, ◌++◌, take, filter, sym, refl, ap, ◌∙◌, subst, ap₂, inl, inr, arith}
 use Rattle.std.proofs.lemmas.Bool.{cases_eq, cases_Bool, both_ways, and_cases, not-true, not_from_false, cond-true, cond-false, leb-false}
 use Rattle.graph.specs.Graph.{Graph, Simple, count}
+use Rattle.cuts.specs.declared.run.Run.{Run}
 use Rattle.cuts.specs.Cuts.{vertex_value}
-use Rattle.cuts.specs.Computations.{Run, least_value, near_runs, more_runs}
+use Rattle.cuts.specs.Computations.{least_value, near_runs, more_runs}
 use Rattle.cuts.specs.Choices.{In}
 use Rattle.cuts.proofs.Smallest.{in_right, in_either, kept_in, kept_out}
 use Rattle.strength.proofs.EdgeLists.{item_map, map_item}
 use Rattle.strength.proofs.VertexCounts.{count_up}
-use Rattle.strength.proofs.VertexLists.{in_front, least_below, least_more, up, in_up, count_on, count_off, kept_on, kept_off, in_kept_front}
+use Rattle.strength.proofs.VertexLists.{in_taken, least_below, least_more, up, in_up, count_on, count_off, kept_on, kept_off, in_kept_front}
 
 -- The run of a pair.
 abbrev pub run_of : Graph → ℕ → ℕ → Run
@@ -111,7 +112,7 @@ module _ (g : Graph) (s : Simple g) (r δ : ℕ) where
   round_fair w m e run i =
       let c = map_item (run_of g w) run (filter (λ b. not (g.joined w b)) (take (δ - 1 - place w) (filter (g.joined r) (up (suc w) m)))) i in
       let k = kept_out (λ b. not (g.joined w b)) c.0 (take (δ - 1 - place w) (filter (g.joined r) (up (suc w) m))) c.1 in
-      let q = kept_out (g.joined r) c.0 (up (suc w) m) (in_front c.0 (δ - 1 - place w) (filter (g.joined r) (up (suc w) m)) k.0) in
+      let q = kept_out (g.joined r) c.0 (up (suc w) m) (in_taken c.0 (δ - 1 - place w) (filter (g.joined r) (up (suc w) m)) k.0) in
       let u = in_up (suc w) m c.0 q.0 in
       subst (Fair g) (sym c.2)
       (record { from_below = omega arith; to_below = omega (arith, u.1); differ = λ x. omega (arith, u.0); unjoined = not-true _ k.1; worth = refl })

@@ -5,8 +5,9 @@ use Rattle.std.proofs.lemmas.Bool.{cases_lt, cases_Bool, both_ways, or_parts, or
 use Rattle.graph.specs.Graph.{Graph, Simple, count}
 use Rattle.graph.proofs.Counts.{count_zero, count_most}
 use Rattle.flows.specs.Lists.{upto, among}
+use Rattle.cuts.specs.declared.run.Run.{Run}
 use Rattle.cuts.specs.Cuts.{vertex_connectivity, complete}
-use Rattle.cuts.specs.Computations.{Run, Computed, least_degree, sparsest, least_value, far_runs, more_runs, vertex_runs, settle_vertices, vertex_computation}
+use Rattle.cuts.specs.Computations.{Computed, least_degree, sparsest, least_value, far_runs, more_runs, vertex_runs, settle_vertices, vertex_computation}
 use Rattle.cuts.specs.Choices.{In}
 use Rattle.cuts.proofs.Smallest.{kept_in, kept_out}
 use Rattle.cuts.proofs.Standing.{in_upto, upto_below}

@@ -1,11 +1,20 @@
 -- Variants of the vertex computation that look right and are wrong, each shown wrong by a map.
-use Rattle.std.specs.Prelude.{◌≡◌, ℕ, suc, ◌+◌, ◌-◌, ◌≤◌, true, false, cond, not, ◌&&◌, List, [], ◌∷◌, ◌++◌, take, filter, nat_le}
+--
+--   far_strength                  what the runs from the sparsest vertex give
+--   rounds_with, strength_with    the rounds with other ends, and what they give
+--   read_at_near_end              a cut, read at the wrong end of the arcs that leave a side
+--   seven                         a map of seven vertices
+--   GivesConnectivity             a computation is right on every graph
+--   VariantsRefuted, SevenRefutes, HubRefutes, NearEndRefuted    what is wrong, and where
+--   RightEnds                     the rounds with the right ends are those of the computation
+use Rattle.std.specs.Prelude.{◌≡◌, ℕ, suc, ◌+◌, ◌-◌, ◌<◌, ◌≤◌, true, false, cond, not, ◌&&◌, List, [], ◌∷◌, ◌++◌, take, filter, ◌≢◌, nat_le}
 use Rattle.graph.specs.Graph.{Graph, Simple}
 use Rattle.flows.specs.Lists.{upto, any, among}
+use Rattle.cuts.specs.declared.run.Run.{Run}
 use Rattle.cuts.specs.Edges.{edge, side, without_vertices}
 use Rattle.cuts.specs.Cuts.{vertex_connectivity, nearest_vertex_cut, is_vertex_cut, complete}
-use Rattle.cuts.specs.Computations.{Run, least_degree, sparsest, neighbours, least_value, far_runs, near_runs}
-use Rattle.cuts.specs.Maps.{graph_of}
+use Rattle.cuts.specs.Computations.{least_degree, sparsest, neighbours, least_value, far_runs, near_runs, vertex_computation}
+use Rattle.cuts.specs.Maps.{graph_of, cliques_and_hub}
 
 -- Stopping after the runs from r.
 abbrev pub far_strength : Graph → ℕ
@@ -47,10 +56,21 @@ VariantsRefuted =
     × (GivesConnectivity (strength_with 3 2) → ⊥)
     × (GivesConnectivity (strength_with 4 1) → ⊥)
 
--- The seven-vertex map.
-abbrev pub SevenRefutes : Type 0
-SevenRefutes = (far_strength seven ≡ 4) × (vertex_connectivity seven ≡ 3)
+-- With the right ends, i up to δ − 3 and j up to δ − 1, the same rounds give the strength of the
+-- computation.
+abbrev pub RightEnds : Type 0
+RightEnds = (g : Graph) → complete g ≡ false → strength_with 3 1 g ≡ (vertex_computation g).strength
 
--- What is read at the near end need not be a cut.
+-- Where stopping after r's runs is wrong: the map of seven vertices, and two cliques with a hub.
+abbrev pub SevenRefutes : Type 0
+SevenRefutes = Simple seven × (far_strength seven ≡ 4) × (vertex_connectivity seven ≡ 3)
+
+abbrev pub HubRefutes : Type 0
+HubRefutes = Simple cliques_and_hub × (far_strength cliques_and_hub ≡ 2) × (vertex_connectivity cliques_and_hub ≡ 1)
+
+-- What is read at the near end need not be a cut, though the two are unjoined vertices.
 abbrev pub NearEndRefuted : Type 0
-NearEndRefuted = ((g : Graph) (a b : ℕ) → Simple g → g.joined a b ≡ false → is_vertex_cut g (read_at_near_end g a b) ≡ true) → ⊥
+NearEndRefuted =
+    ((g : Graph) (a b : ℕ) → Simple g → a < g.order → b < g.order → (a ≢ b) → g.joined a b ≡ false
+    → is_vertex_cut g (read_at_near_end g a b) ≡ true)
+    → ⊥
