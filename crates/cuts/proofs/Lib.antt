@@ -5,6 +5,7 @@ pub mod EdgeParts
 pub mod EdgeNearest
 pub mod RouteCounts
 pub mod RouteMeets
+pub mod RouteBytes
 pub mod RouteFits
 pub mod RouteEnds
 pub mod VertexLists
@@ -14,4 +15,7 @@ pub mod VertexBorder
 pub mod VertexExits
 pub mod VertexFlow
 pub mod VertexAny
+pub mod Parting
+pub mod RouteInner
+pub mod RouteMost
 pub mod Shown

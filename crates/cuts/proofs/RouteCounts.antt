@@ -1,5 +1,6 @@
 -- Double counting between two lists: if each item of one meets some item of the other, each
--- item of the other is met at most once, and the lists are as long, then each is met exactly once.
+-- item of the other is met at most once, then the one is no longer than the other; and where they
+-- are as long, each is met exactly once.
 use Rattle.std.proofs.Common.{◌≡◌, ℕ, ◌+◌, ◌≤◌, Bool, true, false, cond, List, [], ◌∷◌, length, All, filter, refl, ap, ◌∙◌, inl, inr, ⊎_elim, arith}
 use Rattle.std.proofs.lemmas.List.Elements.{All-nil, All-cons, All-head, All-tail}
 use Rattle.std.proofs.lemmas.Bool.{cases_Bool, or_cases, or_left, or_right, both_ways}
@@ -101,7 +102,11 @@ module _ {X Y : Type 0} (t : X → Y → Bool) where
         sum_add (met (x ∷ xs)) (λ y. bit (t x y)) (met xs) (λ y. kept_cons (λ z. t z y) x xs) ys,
       )
 
-  -- Then, with lists as long and each item met at most once, each is met exactly once.
+  -- Then, with each item met at most once, xs are no more than ys.
+  pub met_few : (xs : List X) (ys : List Y) → All (λ x. any (t x) ys ≡ true) xs → ((y : Y) → In y ys → met xs y ≤ 1) → length xs ≤ length ys
+  met_few xs ys a most = omega (arith, met_least xs ys a, sum_most (met xs) ys most)
+
+  -- And with lists as long each is met exactly once.
   pub met_once : (xs : List X) (ys : List Y) → All (λ x. any (t x) ys ≡ true) xs → ((y : Y) → In y ys → met xs y ≤ 1) → length xs ≡ length ys
       → (y : Y) → In y ys → met xs y ≡ 1
   met_once xs ys a most l = sum_tight (met xs) ys most (omega (arith, met_least xs ys a))

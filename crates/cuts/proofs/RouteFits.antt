@@ -12,8 +12,10 @@ use Rattle.flows.proofs.Routes.{walk_goes}
 use Rattle.cuts.specs.declared.edge.Edge.{Edge}
 use Rattle.cuts.specs.Edges.{edge}
 use Rattle.cuts.specs.Choices.{In}
-use Rattle.cuts.specs.RouteRules.{Pairwise, second, Ascending, ShareNoEdge, route_bytes, RoutesFit}
+use Rattle.cuts.specs.RouteBytes.{route_bytes}
+use Rattle.cuts.specs.RouteRules.{Pairwise, second, Ascending, ShareNoEdge, RoutesFit}
 use Rattle.cuts.proofs.Smallest.{in_either}
+use Rattle.cuts.proofs.RouteBytes.{bytes_more}
 use Rattle.cuts.proofs.RouteCounts.{all_in_list, in_list_all}
 use Rattle.cuts.proofs.RouteMeets.{goes_first, goes_later, goes_among}
 
@@ -27,7 +29,9 @@ different_edges [] g simple on differ = omega arith
 different_edges (e ∷ es) g simple on differ =
     let less = one_edge_less_lem g e.low e.high simple (All-head (λ e. g.joined e.low e.high ≡ true) e es on) in
     let rest = different_edges es (without_edge g e.low e.high) less.0
-    (in_list_all _ es (λ f i. and_from _ _ (all_in_list (λ e. g.joined e.low e.high ≡ true) f es (All-tail (λ e. g.joined e.low e.high ≡ true) e es on) i) (not_from_false _ (all_in_list (Differ e) f es differ.0 i))))
+    (in_list_all _ es (λ f i. and_from _ _
+    (all_in_list (λ e. g.joined e.low e.high ≡ true) f es (All-tail (λ e. g.joined e.low e.high ≡ true) e es on) i)
+    (not_from_false _ (all_in_list (Differ e) f es differ.0 i))))
     differ.1 in
     omega (arith, rest, less.1)
 
@@ -113,7 +117,13 @@ bytes_steps : (r : ℕ → ℕ → Bool) (a b : ℕ) (rs : List (List ℕ)) → 
 unfolding all_steps route_bytes
 bytes_steps r a b [] each = refl
 bytes_steps r a b (xs ∷ rs) each =
-    omega (arith, walk_length r a b xs (All-head (Route r a b) xs rs each).walk, length-append (steps xs) (all_steps rs), bytes_steps r a b rs (All-tail (Route r a b) xs rs each))
+    omega (
+      arith,
+      bytes_more xs rs,
+      walk_length r a b xs (All-head (Route r a b) xs rs each).walk,
+      length-append (steps xs) (all_steps rs),
+      bytes_steps r a b rs (All-tail (Route r a b) xs rs each),
+    )
 
 module _ {X : Type 0} (f : X → ℕ) (n : ℕ) where
   -- Ascending numbers from low up and below n are at most n - low.

@@ -1,6 +1,6 @@
--- Routes and a parting set: each route meets it, so of as many items as there are routes each
--- lies on exactly one.
-use Rattle.std.proofs.Common.{◌≡◌, ℕ, ◌<◌, Bool, true, false, ◌&&◌, eqb, ◌⊎◌, List, [], ◌∷◌, sym, refl, ap, ◌∙◌, ap₂, inl, inr, ⊎_elim}
+-- Routes and a parting set: each route meets it, so they are no more than its items, and of as
+-- many items as there are routes each lies on exactly one.
+use Rattle.std.proofs.Common.{◌≡◌, ℕ, ◌<◌, ◌≤◌, Bool, true, false, ◌&&◌, eqb, List, [], ◌∷◌, length, All, filter, sym, refl, ap, ◌∙◌, ap₂, ⊎_elim}
 use Rattle.std.proofs.lemmas.Bool.{cases_Bool, both_ways, eqb-true, eq-eqb, or_cases, or_left, or_right, or_from, and_parts, and_from, not-true, not_from_false}
 use Rattle.std.proofs.lemmas.List.Elements.{All-weaker}
 use Rattle.graph.specs.Graph.{Graph, Simple}
@@ -8,15 +8,16 @@ use Rattle.graph.proofs.Edges.{same_edge_ends}
 use Rattle.flows.specs.Lists.{any, among}
 use Rattle.flows.specs.Reach.{reaches}
 use Rattle.flows.specs.Routes.{Walk, Route, goes, edge_on}
-use Rattle.flows.proofs.Lists.{never_true, any_nil, among_head, among_tail, among_cases}
+use Rattle.flows.proofs.Lists.{never_true, among_head, among_tail}
 use Rattle.flows.proofs.Reached.{reached_self}
 use Rattle.flows.proofs.Routes.{walk_reached}
 use Rattle.cuts.specs.declared.edge.Edge.{Edge}
 use Rattle.cuts.specs.Edges.{is_between, has_edge, without_edges, without_vertices}
 use Rattle.cuts.specs.Choices.{In}
 use Rattle.cuts.specs.Cuts.{edges_part, vertices_part}
-use Rattle.cuts.specs.RouteRules.{ShareNoEdge, ShareOnlyEnds, EachEdgeOnOneRoute, EachVertexOnOneRoute}
-use Rattle.cuts.proofs.RouteCounts.{pairwise_weaker, any_wider, kept_once, met_once}
+use Rattle.cuts.specs.RouteRules.{ShareNoEdge, ShareOnlyEnds, EdgeRoutes, VertexRoutes, EachEdgeOnOneRoute, EachVertexOnOneRoute}
+use Rattle.cuts.proofs.Standing.{in_among, among_in}
+use Rattle.cuts.proofs.RouteCounts.{pairwise_weaker, any_wider, kept_once, met_few, met_once}
 
 -- A route goes from its first vertex to its second.
 pub goes_first : (x y : ℕ) (xs : List ℕ) → goes (x ∷ (y ∷ xs)) x y ≡ true
@@ -88,33 +89,55 @@ module _ (g : Graph) (simple : Simple g) (a b : ℕ) (ha : a < g.order) where
       clear : any (among xs) c ≡ false → (p : ℕ) → among xs p ≡ true → among c p ≡ false
       clear off p k = never_true _ (λ h. both_ways _ off (any_wider (eqb p) (among xs) (λ v e. ap (among xs) (sym (eqb-true p v e)) ∙ k) c h))
 
+module _ (g : Graph) (simple : Simple g) (a b : ℕ) (ha : a < g.order) (routes : List (List ℕ)) where
+  -- Each of some edge routes has an edge of any edges that part the ends.
+  edge_routes_meet : EdgeRoutes g a b routes → (c : List Edge) → edges_part g a b c ≡ true
+      → All (λ xs. any (λ e. edge_on xs e.low e.high) c ≡ true) routes
+  edge_routes_meet rules c part =
+      All-weaker (Route g.joined a b) (λ xs. any (λ (e : Edge). edge_on xs e.low e.high) c ≡ true)
+      (λ xs r. edge_met g simple a b ha c part xs r.walk) routes rules.each
+
+  -- No edge is on two of them.
+  edge_once : EdgeRoutes g a b routes → (e : Edge) → length (filter (λ xs. edge_on xs e.low e.high) routes) ≤ 1
+  edge_once rules e =
+      kept_once (λ xs. edge_on xs e.low e.high) routes
+      (pairwise_weaker ShareNoEdge _ (λ xs ys s. s e.low e.high) routes rules.disjoint)
+
+  -- So they are no more than these edges.
+  pub edge_routes_few : EdgeRoutes g a b routes → (c : List Edge) → edges_part g a b c ≡ true → length routes ≤ length c
+  edge_routes_few rules c part =
+      met_few (λ xs (e : Edge). edge_on xs e.low e.high) routes c (edge_routes_meet rules c part) (λ e _. edge_once rules e)
+
+  -- Each of some vertex routes has a vertex of any vertices that part the ends.
+  vertex_routes_meet : VertexRoutes g a b routes → (c : List ℕ) → vertices_part g a b c ≡ true → All (λ xs. any (among xs) c ≡ true) routes
+  vertex_routes_meet rules c part =
+      All-weaker (Route g.joined a b) (λ xs. any (among xs) c ≡ true)
+      (λ xs r. vertex_met g simple a b ha c part xs r.walk) routes rules.each
+
+  -- No vertex of a list that has neither end is on two of them.
+  vertex_once : VertexRoutes g a b routes → (c : List ℕ) → among c a ≡ false → among c b ≡ false → (v : ℕ) → In v c
+      → length (filter (λ xs. among xs v) routes) ≤ 1
+  vertex_once rules c ca cb v i =
+      kept_once (λ xs. among xs v) routes
+      (pairwise_weaker (ShareOnlyEnds a b) (λ xs ys. among xs v ≡ true → among ys v ≡ false)
+      (λ xs ys s on. never_true _ (λ k. ⊎_elim (no_end a ca) (no_end b cb) (s v on k))) routes rules.apart)
+    where
+      no_end : (x : ℕ) → among c x ≡ false → v ≡ x → ⊥
+      no_end x off e = both_ways _ off (ap (among c) (sym e) ∙ in_among v c i)
+
+  -- So they are no more than these vertices.
+  pub vertex_routes_few : VertexRoutes g a b routes → (c : List ℕ) → among c a ≡ false → among c b ≡ false → vertices_part g a b c ≡ true
+      → length routes ≤ length c
+  vertex_routes_few rules c ca cb part = met_few among routes c (vertex_routes_meet rules c part) (vertex_once rules c ca cb)
+
 -- Of as many edges as there are routes, that part the ends, each lies on exactly one route.
 pub each_edge_on_one_route_lem : EachEdgeOnOneRoute
 each_edge_on_one_route_lem g a b routes c simple ha hb ne rules part l =
     met_once (λ xs (e : Edge). edge_on xs e.low e.high) routes c
-    (All-weaker (Route g.joined a b) (λ xs. any (λ (e : Edge). edge_on xs e.low e.high) c ≡ true) (λ xs r. edge_met g simple a b ha c part xs r.walk) routes rules.each)
-    (λ e i. kept_once (λ xs. edge_on xs e.low e.high) routes
-    (pairwise_weaker ShareNoEdge _ (λ xs ys s. s e.low e.high) routes rules.disjoint))
-    l
+    (edge_routes_meet g simple a b ha routes rules c part) (λ e _. edge_once g simple a b ha routes rules e) l
 
--- A number stands in a list by the test, and so it does stand there.
-among_in : (w : ℕ) (c : List ℕ) → among c w ≡ true → In w c
-among_in w [] h = absurd (both_ways _ (any_nil (eqb w)) h)
-among_in w (v ∷ c) h = ⊎_elim (λ e. inl e) (λ k. inr (among_in w c k)) (among_cases v c w h)
-
--- And the other way.
-in_among : (w : ℕ) (c : List ℕ) → In w c → among c w ≡ true
-in_among w [] i = absurd i
-in_among w (v ∷ c) i = ⊎_elim (λ e. ap (among (v ∷ c)) e ∙ among_head v c) (λ j. among_tail v c w (in_among w c j)) i
-
--- And so of vertices; on two routes lie only the ends, which are not among them.
+-- And so of vertices, none of them an end.
 pub each_vertex_on_one_route_lem : EachVertexOnOneRoute
 each_vertex_on_one_route_lem g a b routes c simple ha hb ne off rules ca cb part l w h =
     met_once among routes c
-    (All-weaker (Route g.joined a b) (λ xs. any (among xs) c ≡ true) (λ xs r. vertex_met g simple a b ha c part xs r.walk) routes rules.each)
-    (λ v i. kept_once (λ xs. among xs v) routes
-    (pairwise_weaker (ShareOnlyEnds a b) (λ xs ys. among xs v ≡ true → among ys v ≡ false) (λ xs ys s on. never_true _ (λ k. inner v (in_among v c i) (s v on k))) routes rules.apart))
-    l w (among_in w c h)
-  where
-    inner : (v : ℕ) → among c v ≡ true → (v ≡ a) ⊎ (v ≡ b) → ⊥
-    inner v i s = ⊎_elim (λ e. both_ways _ ca (ap (among c) (sym e) ∙ i)) (λ e. both_ways _ cb (ap (among c) (sym e) ∙ i)) s
+    (vertex_routes_meet g simple a b ha routes rules c part) (vertex_once g simple a b ha routes rules c ca cb) l w (among_in w c h)

@@ -1,8 +1,9 @@
 -- Items that stand in lists: tests over lists, lists in which nothing stands twice, and
 -- sublists that hold all that passes a test.
-use Rattle.std.proofs.Common.{◌≡◌, ℕ, zero, suc, ◌<◌, ◌≤◌, Bool, true, false, cond, ◌&&◌, ◌||◌, List, [], ◌∷◌, ◌++◌, length, filter, sym, refl, ap, ◌∙◌, subst, ap₂, inl, inr, ⊎_elim, arith}
-use Rattle.std.proofs.lemmas.Bool.{cases_Bool, and_parts, true≢false}
-use Rattle.flows.specs.Lists.{upto, any, all}
+use Rattle.std.proofs.Common.{◌≡◌, ℕ, zero, suc, ◌<◌, ◌≤◌, Bool, true, false, cond, ◌&&◌, ◌||◌, eqb, List, [], ◌∷◌, ◌++◌, length, filter, sym, refl, ap, ◌∙◌, subst, ap₂, inl, inr, ⊎_elim, arith}
+use Rattle.std.proofs.lemmas.Bool.{cases_Bool, both_ways, and_parts, eq-eqb, true≢false}
+use Rattle.flows.specs.Lists.{upto, any, all, among}
+use Rattle.flows.proofs.Lists.{any_nil, among_cases}
 use Rattle.cuts.specs.Choices.{In, find}
 use Rattle.cuts.proofs.Smallest.{Sub, sub_none, sub_take, sub_skip, in_left, in_right, in_either, kept_out}
 
@@ -109,6 +110,14 @@ module _ {X : Type 0} where
       (λ off. let m : length (filter t xs) ≡ length ys = rw off at l in
       rw off (sub_full t a.1 s (λ e i q. h e (inr i) q) m))
       (cases_Bool (t x))
+
+-- A number that stands in a list does so by the test, and the other way.
+pub in_among : (v : ℕ) (xs : List ℕ) → In v xs → among xs v ≡ true
+in_among v xs i = any_in (eqb v) v xs i (eq-eqb v v refl)
+
+pub among_in : (v : ℕ) (xs : List ℕ) → among xs v ≡ true → In v xs
+among_in v [] m = absurd (both_ways _ (any_nil (eqb v)) m)
+among_in v (x ∷ xs) m = ⊎_elim (λ e. inl e) (λ k. inr (among_in v xs k)) (among_cases x xs v m)
 
 -- The numbers below n stand in `upto n`, each once.
 pub in_upto : (n q : ℕ) → q < n → In q (upto n)

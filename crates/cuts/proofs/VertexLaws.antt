@@ -53,7 +53,7 @@ kept_others g a b t fa fb =
 
 module _ (g : Graph) (s : Simple g) (a b : ℕ) (ha : a < g.order) (hb : b < g.order) where
   -- Parting has no direction.
-  part_turn : (c : List ℕ) → vertices_part g a b c ≡ vertices_part g b a c
+  pub part_turn : (c : List ℕ) → vertices_part g a b c ≡ vertices_part g b a c
   part_turn c =
       ap not (same_test _ _ (reached_turn g.order (without_vertices g c).joined even a b ha) (reached_turn g.order (without_vertices g c).joined even b a hb))
     where

@@ -2,6 +2,8 @@ pub mod Edges
 pub mod Choices
 pub mod Cuts
 pub mod Pairs
+pub mod Parting
+pub mod RouteBytes
 pub mod RouteRules
 pub mod Computations
 pub mod Maps

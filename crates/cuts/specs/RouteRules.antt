@@ -1,11 +1,22 @@
 -- Lists of routes that obey the rules, and what holds between them and a parting set.
-use Rattle.std.specs.Prelude.{◌≡◌, ℕ, ◌+◌, ◌-◌, ◌*◌, ◌<◌, ◌≤◌, true, false, ◌⊎◌, List, [], ◌∷◌, length, All, filter, ◌≢◌, slice_index}
+--
+--   Pairwise                     a relation between each item and every later one
+--   second, Ascending            the second vertex of a route; routes in its order
+--   inner                        the inner vertices of a route
+--   ShareNoEdge, ShareOnlyEnds   what two routes have in common
+--   EdgeRoutes, VertexRoutes     the rules
+--   SharingByInner               to share only the ends is to share no inner vertex
+--   RoutesFit, VertexRoutesFit   how many bytes routes take
+--   NoMoreEdgeRoutes, NoMoreVertexRoutes       no more routes than the value of the pair
+--   EachEdgeOnOneRoute, EachVertexOnOneRoute   routes against as many edges or vertices that part
+use Rattle.std.specs.Prelude.{◌≡◌, ℕ, ◌+◌, ◌-◌, ◌*◌, ◌<◌, ◌≤◌, Bool, true, false, ◌⊎◌, List, [], ◌∷◌, length, take, drop, All, filter, ◌≢◌, ◌↔◌, slice_index}
 use Rattle.graph.specs.Graph.{Graph, Simple, edges}
 use Rattle.flows.specs.Lists.{among}
 use Rattle.flows.specs.Routes.{Route, edge_on}
 use Rattle.cuts.specs.declared.edge.Edge.{Edge}
 use Rattle.cuts.specs.Choices.{In}
-use Rattle.cuts.specs.Cuts.{edges_part, vertices_part}
+use Rattle.cuts.specs.Cuts.{edges_part, edge_value, vertices_part, vertex_value}
+use Rattle.cuts.specs.RouteBytes.{route_bytes}
 
 -- A relation holds between each item and every later one.
 abbrev pub Pairwise : {X : Type 0} → (X → X → Type 0) → List X → Type 0
@@ -18,6 +29,10 @@ second xs = slice_index xs 1
 
 abbrev pub Ascending : List (List ℕ) → Type 0
 Ascending = Pairwise (λ xs ys. second xs < second ys)
+
+-- The inner vertices of a route are all but its two ends.
+abbrev pub inner : List ℕ → List ℕ
+inner xs = take (length xs - 2) (drop 1 xs)
 
 -- No edge is used by both, in either direction.
 abbrev pub ShareNoEdge : List ℕ → List ℕ → Type 0
@@ -39,16 +54,30 @@ pub record VertexRoutes (g : Graph) (a b : ℕ) (routes : List (List ℕ)) : Typ
   pub ascending : Ascending routes
   pub apart : Pairwise (ShareOnlyEnds a b) routes
 
--- The bytes of routes: for each one its length and its vertices.
-unfoldable pub route_bytes : List (List ℕ) → ℕ
-route_bytes [] = 0
-route_bytes (xs ∷ rs) = 1 + length xs + route_bytes rs
+-- Of two routes from a to b only a and b are on both exactly where no inner vertex of one is
+-- an inner vertex of the other.
+abbrev pub SharingByInner : Type 0
+SharingByInner =
+    (r : ℕ → ℕ → Bool) (a b : ℕ) (xs ys : List ℕ) → Route r a b xs → Route r a b ys
+    → ShareOnlyEnds a b xs ys ↔ ((w : ℕ) → among (inner xs) w ≡ true → among (inner ys) w ≡ false)
 
--- They fit into as many bytes as there are edges, and two more for each vertex but one.
+-- The bytes of edge routes are at most as many as there are edges, and two more for each vertex but one.
 abbrev pub RoutesFit : Type 0
 RoutesFit =
     (g : Graph) (a b : ℕ) (routes : List (List ℕ)) → Simple g → a < g.order → b < g.order → (a ≢ b)
     → EdgeRoutes g a b routes → route_bytes routes ≤ edges g + 2 * (g.order - 1)
+
+-- There are no more edge routes between two vertices than their value.
+abbrev pub NoMoreEdgeRoutes : Type 0
+NoMoreEdgeRoutes =
+    (g : Graph) (a b : ℕ) (routes : List (List ℕ)) → Simple g → a < g.order → b < g.order → (a ≢ b)
+    → EdgeRoutes g a b routes → length routes ≤ edge_value g a b
+
+-- And no more vertex routes, if the two are not joined.
+abbrev pub NoMoreVertexRoutes : Type 0
+NoMoreVertexRoutes =
+    (g : Graph) (a b : ℕ) (routes : List (List ℕ)) → Simple g → a < g.order → b < g.order → (a ≢ b) → g.joined a b ≡ false
+    → VertexRoutes g a b routes → length routes ≤ vertex_value g a b
 
 -- Of as many edges as there are routes, that part a and b, each lies on exactly one route.
 abbrev pub EachEdgeOnOneRoute : Type 0

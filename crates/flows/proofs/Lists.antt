@@ -1,6 +1,6 @@
 -- Lists of numbers as sets: what `any`, `all` and `among` say of `upto`, `++` and `kept_by`.
 use Rattle.std.proofs.Common.{◌≡◌, ℕ, zero, suc, ◌<◌, Bool, true, false, cond, ◌&&◌, ◌||◌, eqb, ltb, ◌⊎◌, List, [], ◌∷◌, ◌++◌, filter, sym, refl, ap, ◌∙◌, inl, inr, arith}
-use Rattle.std.proofs.lemmas.Bool.{both_ways, cases_Bool, eqb-true, eq-eqb, ne_eqb, ltb-true, lt-ltb, or_cases, or_parts, or_left, or_right, or_from, and_parts, and_from}
+use Rattle.std.proofs.lemmas.Bool.{both_ways, cases_Bool, eqb-true, eq-eqb, ne_eqb, ltb-true, lt-ltb, or_cases, or_parts, or_left, or_right, or_from, and_cases, and_parts, and_from}
 use Rattle.std.proofs.lemmas.Bool.Decides.{nat_tests}
 use Rattle.flows.specs.Lists.{upto, any, all, among}
 
@@ -137,6 +137,15 @@ all_at p (x ∷ xs) h v m =
 pub all_from : (p : ℕ → Bool) (xs : List ℕ) → ((v : ℕ) → among xs v ≡ true → p v ≡ true) → all p xs ≡ true
 all_from p [] h = all_nil p
 all_from p (x ∷ xs) h = all_cons p x xs ∙ and_from _ _ (h x (among_head x xs)) (all_from p xs (λ v m. h v (among_tail x xs v m)))
+
+-- If not all numbers of a list pass, then one that stands in it does not.
+pub all_off : (p : ℕ → Bool) (xs : List ℕ) → all p xs ≡ false → (v : ℕ) × (among xs v ≡ true) × (p v ≡ false)
+all_off p [] h = absurd (both_ways _ h (all_nil p))
+all_off p (x ∷ xs) h =
+    elim (and_cases (p x) (all p xs) (sym (all_cons p x xs) ∙ h)) [
+      | inl e ↦ (x, among_head x xs, e)
+      | inr e ↦ (let r = all_off p xs e in (r.0, among_tail x xs r.0 r.1, r.2))
+    ]
 
 -- Some number below n passes, and all do.
 pub any_upto_at : (p : ℕ → Bool) (n v : ℕ) → v < n → p v ≡ true → any p (upto n) ≡ true

@@ -1,10 +1,7 @@
--- Items of lists: images, the test `among` of numbers, and the least number.
-use Rattle.std.proofs.Common.{◌≡◌, ℕ, ◌≤◌, min, Bool, true, false, eqb, ◌⊎◌, List, [], ◌∷◌, map, sym, refl, ap, ◌∙◌, subst, inl, inr, arith}
-use Rattle.std.proofs.lemmas.Bool.{cases_lt, both_ways, and_cases, eq-eqb}
-use Rattle.flows.specs.Lists.{all, among}
-use Rattle.flows.proofs.Lists.{any_nil, among_head, among_tail, among_cases, all_nil, all_cons}
+-- Items of lists: images, and the least number.
+use Rattle.std.proofs.Common.{◌≡◌, ℕ, ◌≤◌, min, ◌⊎◌, List, [], ◌∷◌, map, sym, refl, ap, ◌∙◌, subst, inl, inr, arith}
+use Rattle.std.proofs.lemmas.Bool.{cases_lt}
 use Rattle.cuts.specs.Choices.{In, least}
-use Rattle.cuts.proofs.Standing.{any_in}
 
 -- The image of an item stands in the image of a list.
 pub item_map : {X Y : Type 0} (f : X → Y) (x : X) (xs : List X) → In x xs → In (f x) (map f xs)
@@ -16,24 +13,6 @@ pub map_item : {X Y : Type 0} (f : X → Y) (y : Y) (xs : List X) → In y (map 
 map_item f y [] h = absurd h
 map_item f y (z ∷ xs) h =
     elim h [ inl e ↦ (z, inl refl, e) | inr k ↦ (let r = map_item f y xs k in (r.0, inr r.1, r.2)) ]
-
--- For numbers, the same as the test `among`.
-pub item_among : (v : ℕ) (xs : List ℕ) → In v xs → among xs v ≡ true
-item_among v xs h = any_in (eqb v) v xs h (eq-eqb v v refl)
-
--- And the other way.
-pub among_item : (v : ℕ) (xs : List ℕ) → among xs v ≡ true → In v xs
-among_item v [] h = absurd (both_ways _ (any_nil (eqb v)) h)
-among_item v (x ∷ xs) h = elim (among_cases x xs v h) [ inl e ↦ inl e | inr k ↦ inr (among_item v xs k) ]
-
--- If not all numbers of a list pass, then one that stands in it does not.
-pub all_off : (p : ℕ → Bool) (xs : List ℕ) → all p xs ≡ false → (v : ℕ) × (among xs v ≡ true) × (p v ≡ false)
-all_off p [] h = absurd (both_ways _ h (all_nil p))
-all_off p (x ∷ xs) h =
-    elim (and_cases (p x) (all p xs) (sym (all_cons p x xs) ∙ h)) [
-      | inl e ↦ (x, among_head x xs, e)
-      | inr e ↦ (let r = all_off p xs e in (r.0, among_tail x xs r.0 r.1, r.2))
-    ]
 
 -- The least is no more than the default.
 pub least_default : (d : ℕ) (xs : List ℕ) → least d xs ≤ d

@@ -14,9 +14,9 @@ use Rattle.cuts.specs.declared.run.Run.{Run}
 use Rattle.cuts.specs.Cuts.{edge_value}
 use Rattle.cuts.specs.Computations.{Computed, least_degree, sparsest, least_value, probes, runs_from_first, edge_runs, edge_computation}
 use Rattle.cuts.specs.Choices.{In}
-use Rattle.cuts.proofs.Standing.{find_in, in_upto}
+use Rattle.cuts.proofs.Standing.{find_in, in_among, among_in, in_upto}
 use Rattle.strength.specs.Strength.{FewEdgeRuns}
-use Rattle.strength.proofs.EdgeLists.{item_among, among_item, item_map, map_item, least_default, least_item, least_is}
+use Rattle.strength.proofs.EdgeLists.{item_map, map_item, least_default, least_item, least_is}
 use Rattle.strength.proofs.EdgeSets.{Dominates, leaving_not, meets}
 use Rattle.strength.proofs.EdgeProbes.{few_probes, probes_below, probes_apart, probes_dominate}
 use Rattle.strength.proofs.EdgeValues.{value_below}
@@ -56,7 +56,7 @@ pub sparsest_is : (g : Graph) → Simple g → (sparsest g < g.order) × (degree
 sparsest_is g ok =
     let m = least_degree_met g ok in
     let f = find_in (λ v. eqb (degree g v) (least_degree g)) 0 m.0 (upto g.order) m.1 (eq-eqb _ _ (sym m.2)) in
-    (ltb-true _ _ (sym (among_upto g.order (sparsest g)) ∙ item_among (sparsest g) (upto g.order) f.0), eqb-true _ _ f.1)
+    (ltb-true _ _ (sym (among_upto g.order (sparsest g)) ∙ in_among (sparsest g) (upto g.order) f.0), eqb-true _ _ f.1)
 
 -- One run.
 abbrev run : Graph → ℕ → ℕ → Run
@@ -77,8 +77,8 @@ honest_from g (v ∷ ws) below apart r i =
     subst (Honest g) (sym m.2)
     (record {
       from_in = below v (among_head v ws);
-      to_in = below m.0 (among_tail v ws m.0 (item_among m.0 ws m.1));
-      differ = λ e. both_ways _ apart.0 (ap (among ws) e ∙ item_among m.0 ws m.1);
+      to_in = below m.0 (among_tail v ws m.0 (in_among m.0 ws m.1));
+      differ = λ e. both_ways _ apart.0 (ap (among ws) e ∙ in_among m.0 ws m.1);
       valued = refl;
     })
 
@@ -98,7 +98,7 @@ module _ (g : Graph) (ok : Simple g) where
   -- A probe that is not the first is run against the first.
   other : (v w : ℕ) (ws : List ℕ) (u : ℕ → Bool) → among (v ∷ ws) w ≡ true → u v ≡ true → u w ≡ false → In w ws
   other v w ws u h uv uw =
-      elim (among_cases v ws w h) [ inl e ↦ absurd (both_ways (u w) uw (ap u e ∙ uv)) | inr k ↦ among_item w ws k ]
+      elim (among_cases v ws w h) [ inl e ↦ absurd (both_ways (u w) uw (ap u e ∙ uv)) | inr k ↦ among_in w ws k ]
 
   -- The first of dominating vertices, run against the others: a set with one vertex in it and one
   -- outside is left by no fewer edges than the least value.

@@ -5,14 +5,13 @@ use Rattle.std.proofs.lemmas.Bool.{both_ways, not-true, not_from_false, eq-eqb, 
 use Rattle.graph.specs.Graph.{Graph, Simple, degree}
 use Rattle.flows.specs.Lists.{upto, among}
 use Rattle.flows.specs.Flow.{leaving}
-use Rattle.flows.proofs.Lists.{among_upto, any_upto_at, any_upto_from, all_upto_at, never_true}
+use Rattle.flows.proofs.Lists.{among_upto, any_upto_at, any_upto_from, all_upto_at, all_off, never_true}
 use Rattle.cuts.specs.declared.edge.Edge.{Edge}
 use Rattle.cuts.specs.Edges.{edge_list, without_edges, side}
 use Rattle.cuts.specs.Cuts.{edges_part, edge_value, is_edge_cut, edge_connectivity}
 use Rattle.cuts.specs.Pairs.{crossing_edges}
 use Rattle.cuts.proofs.EdgeLists.{crossing_count}
 use Rattle.cuts.proofs.Smallest.{Sub, size_least, size_met, kept_sub}
-use Rattle.strength.proofs.EdgeLists.{all_off}
 use Rattle.strength.proofs.EdgeSets.{leaving_one}
 use Rattle.strength.proofs.EdgeCrossing.{crossing_parts}
 

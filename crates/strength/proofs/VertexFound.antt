@@ -1,43 +1,29 @@
 -- The cut of the vertex computation is a vertex cut of the strength's size and parts the named
 -- pair; its runs have the values of their pairs.
-use Rattle.std.proofs.Common.{◌≡◌, ℕ, ◌<◌, Bool, true, false, not, ◌&&◌, ◌⊎◌, List, length, Some, sym, ap, ◌∙◌, ap₂, subst, inl, inr}
-use Rattle.std.proofs.lemmas.Bool.{lt-ltb, true≢false, cases_Bool, cond-true}
+use Rattle.std.proofs.Common.{◌≡◌, ℕ, ◌<◌, true, false, List, length, Some, sym, ap, ◌∙◌, subst, inl, inr}
+use Rattle.std.proofs.lemmas.Bool.{cases_Bool, cond-true}
 use Rattle.graph.specs.Graph.{Graph, Simple}
-use Rattle.flows.specs.Lists.{upto, all, among}
-use Rattle.flows.proofs.Lists.{among_upto, among_kept, any_at, all_at, never_true}
 use Rattle.cuts.specs.declared.run.Run.{Run}
-use Rattle.cuts.specs.Edges.{without_vertices, side}
-use Rattle.cuts.specs.Cuts.{vertices_part, others, nearest_vertex_cut, is_vertex_cut, outside_of, complete}
+use Rattle.cuts.specs.Cuts.{vertices_part, others, nearest_vertex_cut, complete}
 use Rattle.cuts.specs.Choices.{In}
 use Rattle.cuts.specs.Computations.{Computed, least_value, first_with, vertex_runs, vertex_computation}
 use Rattle.cuts.proofs.Smallest.{Sub, smallest_each}
 use Rattle.cuts.proofs.VertexLists.{sub_among}
 use Rattle.cuts.proofs.VertexLaws.{others_are, no_end}
 use Rattle.cuts.proofs.VertexFlow.{nearest_cut}
+use Rattle.cuts.proofs.Parting.{vertices_part_by_routes_lem, vertex_cut_by_routes_lem}
 use Rattle.strength.specs.Strength.{VertexRunsTrue, VertexCutFound, VertexCutParts}
 use Rattle.strength.proofs.VertexFew.{named}
 use Rattle.strength.proofs.VertexStrength.{runs_fair, computed_runs}
 
--- A vertex outside a list stands among those outside.
-stands_outside : (g : Graph) (c : List ℕ) (v : ℕ) → v < g.order → among c v ≡ false → among (outside_of g c) v ≡ true
-stands_outside g c v h off =
-    among_kept (λ x. not (among c x)) (upto g.order) v
-    ∙ ap₂ (λ (x y : Bool). x && not y) (among_upto g.order v ∙ lt-ltb v g.order h) off
-
--- What parts two vertices outside it is a vertex cut.
-parts_is_cut : (g : Graph) (c : List ℕ) (a b : ℕ) → a < g.order → b < g.order → among c a ≡ false → among c b ≡ false → vertices_part g a b c ≡ true → is_vertex_cut g c ≡ true
-parts_is_cut g c a b ha hb ca cb part =
-    any_at (λ x. not (all (among (side (without_vertices g c) x)) (outside_of g c))) (outside_of g c) a (stands_outside g c a ha ca)
-    (ap not (never_true (all (among (side (without_vertices g c) a)) (outside_of g c))
-    (λ h. true≢false (sym part ∙ ap not (all_at (among (side (without_vertices g c) a)) (outside_of g c) h b (stands_outside g c b hb cb))))))
-
--- The named pair and the cut: two vertices, and as many others as the strength, which part them.
+-- The named pair and the cut: two different vertices, and as many others as the strength, which part them.
 record Shown (g : Graph) : Type 0 where
   from : ℕ
   to : ℕ
   named : (vertex_computation g).pair ≡ Some (from, to)
   from_in : from < g.order
   to_in : to < g.order
+  differ : from ≡ to → ⊥
   inner : Sub (vertex_computation g).cut (others g from to)
   parted : vertices_part g from to (vertex_computation g).cut ≡ true
   sized : length (vertex_computation g).cut ≡ (vertex_computation g).strength
@@ -59,6 +45,7 @@ vertex_shown g simple h =
       named = ap (λ (x : Computed ℕ). x.pair) whole;
       from_in = f.from_below;
       to_in = f.to_below;
+      differ = f.differ;
       inner = subst (λ (c : List ℕ). Sub c (others g r.from r.to)) (sym cut) sub;
       parted = ap (vertices_part g r.from r.to) cut ∙ near.0;
       sized = ap length cut ∙ near.1 ∙ sym f.worth ∙ n.1 ∙ sym (ap (λ (x : Computed ℕ). x.strength) whole);
@@ -69,7 +56,8 @@ pub vertex_cut_found_lem : VertexCutFound
 vertex_cut_found_lem g simple two h =
     let s = vertex_shown g simple h in
     let ends = no_end g s.from s.to (vertex_computation g).cut s.inner in
-    (parts_is_cut g _ s.from s.to s.from_in s.to_in ends.0 ends.1 s.parted, s.sized)
+    let none = (vertices_part_by_routes_lem g s.from s.to _ simple s.from_in).0.0 s.parted in
+    ((vertex_cut_by_routes_lem g _ simple).0.1 (s.from, s.to, (s.from_in, ends.0), (s.to_in, ends.1), s.differ, none), s.sized)
 
 -- It is made of vertices of the graph, has neither end of the named pair, and parts them.
 pub vertex_cut_parts_lem : VertexCutParts

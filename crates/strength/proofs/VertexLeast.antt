@@ -3,11 +3,10 @@ use Rattle.std.proofs.Common.{◌≡◌, ℕ, ◌<◌, ◌≤◌, Bool, true, fa
 use Rattle.std.proofs.lemmas.Bool.{both_ways, and_parts, and_from, or_cases, or_parts, or_from, not-true, not_from_false, eq-eqb, ne_eqb, eqb-true, lt-ltb, ltb-true}
 use Rattle.graph.specs.Graph.{Graph, Simple, count}
 use Rattle.flows.specs.Lists.{upto, all, among}
-use Rattle.flows.proofs.Lists.{never_true, among_upto, among_kept, all_upto_at}
+use Rattle.flows.proofs.Lists.{never_true, among_upto, among_kept, all_upto_at, all_off}
 use Rattle.cuts.specs.Choices.{smallest, size}
 use Rattle.cuts.specs.Cuts.{vertices_part, others, vertex_value, is_vertex_cut, complete}
 use Rattle.cuts.proofs.Smallest.{kept_sub, size_least, size_met}
-use Rattle.strength.proofs.EdgeLists.{all_off}
 use Rattle.strength.proofs.VertexCounts.{count_among}
 use Rattle.strength.proofs.VertexSets.{Separation, around, sides_unjoined}
 use Rattle.cuts.proofs.EdgeLists.{kept_count}

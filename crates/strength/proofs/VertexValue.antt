@@ -1,15 +1,15 @@
 -- Separations and the definitions: a vertex cut is a separation and a separation a vertex cut,
 -- and the same for what parts two vertices.
-use Rattle.std.proofs.Common.{◌≡◌, ℕ, ◌<◌, ◌≤◌, Bool, true, false, cond, not, ◌&&◌, ◌||◌, List, [], ◌∷◌, length, filter, sym, refl, ◌∙◌, arith}
-use Rattle.std.proofs.lemmas.Bool.{both_ways, and_parts, and_from, and_right, or_parts, or_from, not-true, not_from_false, lt-ltb, ltb-true}
+use Rattle.std.proofs.Common.{◌≡◌, ℕ, ◌<◌, ◌≤◌, Bool, true, false, cond, not, ◌&&◌, ◌||◌, List, [], ◌∷◌, length, filter, refl, ◌∙◌, arith}
+use Rattle.std.proofs.lemmas.Bool.{both_ways, and_parts, and_from, and_right, or_parts, or_from, not-true, not_from_false, lt-ltb}
 use Rattle.graph.specs.Graph.{Graph, Simple}
 use Rattle.flows.specs.Lists.{upto, all, among}
 use Rattle.flows.specs.Reach.{reaches}
-use Rattle.flows.proofs.Lists.{never_true, among_upto, among_kept, any_from, any_at, all_at}
+use Rattle.flows.proofs.Lists.{never_true, among_upto, among_kept, any_from, any_at, all_at, all_off}
 use Rattle.flows.proofs.Reached.{reached_self, reached_step, reached_each, reached_least}
 use Rattle.cuts.specs.Edges.{without_vertices, side}
 use Rattle.cuts.specs.Cuts.{outside_of, is_vertex_cut}
-use Rattle.strength.proofs.EdgeLists.{all_off}
+use Rattle.cuts.proofs.Parting.{outside_parts, outside_from}
 use Rattle.strength.proofs.VertexSets.{Separation}
 
 -- A filter of fewer items keeps no more.
@@ -62,17 +62,6 @@ separation_parts g S L k c a b la ia ob has =
     never_true _ (λ h. both_ways _ ob
     (reached_least g.order (left g c) a la L ia (λ p q _ lq ip e. let w = left_parts g c p q e in k.closed p q ip w.0 (has q lq w.2)) b h))
 
--- What stands outside a list of vertices.
-outside_parts : (g : Graph) (c : List ℕ) (v : ℕ) → among (outside_of g c) v ≡ true → (v < g.order) × (among c v ≡ false)
-outside_parts g c v h =
-    let a = and_parts (among (upto g.order) v) _ (sym (among_kept (λ v. not (among c v)) (upto g.order) v) ∙ h) in
-    (ltb-true v g.order (sym (among_upto g.order v) ∙ a.0), not-true _ a.1)
-
--- A vertex that is not in the list stands outside it.
-outside_from : (g : Graph) (c : List ℕ) (v : ℕ) → v < g.order → among c v ≡ false → among (outside_of g c) v ≡ true
-outside_from g c v l o =
-    among_kept (λ v. not (among c v)) (upto g.order) v ∙ and_from _ _ (among_upto g.order v ∙ lt-ltb v g.order l) (not_from_false _ o)
-
 -- A vertex cut separates.
 pub cut_separates : (g : Graph) → Simple g → (c : List ℕ) → is_vertex_cut g c ≡ true → (L : ℕ → Bool) × Separation g (among c) L
 cut_separates g s c h =
@@ -96,6 +85,6 @@ separation_cuts g S L k =
     let c = filter S (upto g.order) in
     let out = separation_parts g S L k c k.here k.there k.here_below k.here_in k.there_out (kept_has S g.order) in
     any_at (λ a. not (all (among (side (without_vertices g c) a)) (outside_of g c))) (outside_of g c) k.here
-    (outside_from g c k.here k.here_below (kept_off S g.order k.here (k.disjoint k.here k.here_in)))
+    (outside_from g c k.here (k.here_below, kept_off S g.order k.here (k.disjoint k.here k.here_in)))
     (not_from_false _ (never_true _ (λ h. both_ways _ out
-    (all_at (among (side (without_vertices g c) k.here)) (outside_of g c) h k.there (outside_from g c k.there k.there_below (kept_off S g.order k.there k.there_off))))))
+    (all_at (among (side (without_vertices g c) k.here)) (outside_of g c) h k.there (outside_from g c k.there (k.there_below, kept_off S g.order k.there k.there_off))))))
