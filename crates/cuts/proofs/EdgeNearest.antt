@@ -73,15 +73,21 @@ module _ (g : Graph) (simple : Simple g) (a b : ℕ) (ha : a < g.order) (f : ℕ
   cut_parts : edges_part g a b (crossing_edges g (residual_side (both_ways g) f a)) ≡ true
   cut_parts = crossing_parts g simple a b ha (residual_side (both_ways g) f a) between
 
+  -- What a set of edges that parts them leaves a reaching is left by no fewer than the flow's value.
+  fewest : (d : List Edge) → edges_part g a b d ≡ true → v ≤ leaving g.order g.joined (λ q. linked (without_edges g d) a q)
+  fewest d h =
+      (largest_flow_lem (both_ways g) a b f v (both_sound g simple) flow ha stuck).2
+      (λ q. linked (without_edges g d) a q) (parted_between g simple a b ha d h)
+
   -- No set of edges that parts them is smaller than the flow.
   at_least : (d : List Edge) → edges_part g a b d ≡ true → v ≤ length d
   at_least d h =
-      omega (arith, (largest_flow_lem (both_ways g) a b f v (both_sound g simple) flow ha stuck).2 (λ q. linked (without_edges g d) a q) (parted_between g simple a b ha d h), leaving_most g simple a ha d)
+      omega (arith, fewest d h, leaving_most g simple a ha d)
 
   -- One that is as small is left by as many.
   tight : (d : List Edge) → edges_part g a b d ≡ true → length d ≡ v → leaving g.order g.joined (λ q. linked (without_edges g d) a q) ≡ v
   tight d h l =
-      omega (arith, l, (largest_flow_lem (both_ways g) a b f v (both_sound g simple) flow ha stuck).2 (λ q. linked (without_edges g d) a q) (parted_between g simple a b ha d h), leaving_most g simple a ha d)
+      omega (arith, l, fewest d h, leaving_most g simple a ha d)
 
   size_is : size (edge_cuts g a b) ≡ v
   size_is =
@@ -122,7 +128,8 @@ module _ (g : Graph) (simple : Simple g) (a b : ℕ) (ha : a < g.order) (f : ℕ
   nearest_found : In (nearest_edge_cut g a b) (edge_cuts g a b) × (all (λ d. inside (side (without_edges g (nearest_edge_cut g a b)) a) (side (without_edges g d) a)) (edge_cuts g a b) ≡ true)
   unfolding nearest_edge_cut
   nearest_found =
-      find_in (λ c. all (λ d. inside (side (without_edges g c) a) (side (without_edges g d) a)) (edge_cuts g a b)) [] (crossing_edges g (residual_side (both_ways g) f a)) (edge_cuts g a b) cut_in cut_innermost
+      find_in (λ c. all (λ d. inside (side (without_edges g c) a) (side (without_edges g d) a)) (edge_cuts g a b)) []
+      (crossing_edges g (residual_side (both_ways g) f a)) (edge_cuts g a b) cut_in cut_innermost
 
   pub value_by_flow : edge_value g a b ≡ v
   unfolding edge_value
@@ -131,7 +138,8 @@ module _ (g : Graph) (simple : Simple g) (a b : ℕ) (ha : a < g.order) (f : ℕ
   pub nearest_by_flow : nearest_edge_cut g a b ≡ crossing_edges g (residual_side (both_ways g) f a)
   nearest_by_flow =
       only (nearest_edge_cut g a b) nearest_found.0
-      (all_in (λ d. inside (side (without_edges g (nearest_edge_cut g a b)) a) (side (without_edges g d) a)) (crossing_edges g (residual_side (both_ways g) f a)) (edge_cuts g a b) nearest_found.1 cut_in)
+      (all_in (λ d. inside (side (without_edges g (nearest_edge_cut g a b)) a) (side (without_edges g d) a))
+      (crossing_edges g (residual_side (both_ways g) f a)) (edge_cuts g a b) nearest_found.1 cut_in)
 
   pub pair_laws : In (nearest_edge_cut g a b) (edge_cuts g a b)
       × ((d : List Edge) → In d (edge_cuts g a b) → (edges_part g a b d ≡ true) × (length d ≡ edge_value g a b))

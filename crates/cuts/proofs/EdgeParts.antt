@@ -214,5 +214,7 @@ leaving_most g simple a ha c =
         zero_le_bit x = omega arith
     table false y j h f = omega arith
 
-    each : (p q : ℕ) → bit (linked (without_edges g c) a p && (not (linked (without_edges g c) a q) && g.joined p q)) ≤ bit (linked (without_edges g c) a p && (not (linked (without_edges g c) a q) && has_edge c p q))
+    each : (p q : ℕ)
+        → bit (linked (without_edges g c) a p && (not (linked (without_edges g c) a q) && g.joined p q))
+        ≤ bit (linked (without_edges g c) a p && (not (linked (without_edges g c) a q) && has_edge c p q))
     each p q = table (linked (without_edges g c) a p) (linked (without_edges g c) a q) (g.joined p q) (has_edge c p q) (leaving_has g simple a a ha c p q)

@@ -101,7 +101,11 @@ module _ (d : Digraph) (s t : ℕ) (sound : Sound d) (hs : s < d.nodes) (st : s 
       record {
         routes = xs ∷ r.routes;
         many = ap suc r.many;
-        each = All-cons (Route f s t) xs r.routes w (All-weaker (Route (without f xs) s t) (Route f s t) (λ ys k. record { walk = walk_more (without f xs) f s t ys (within f xs) k.walk; apart = k.apart }) r.routes r.each);
+        each =
+            All-cons (Route f s t) xs r.routes w
+            (All-weaker (Route (without f xs) s t) (Route f s t)
+            (λ ys k. record { walk = walk_more (without f xs) f s t ys (within f xs) k.walk; apart = k.apart })
+            r.routes r.each);
         disjoint = (All-weaker (Route (without f xs) s t) (ArcDisjoint xs) (λ ys k. clear ys k.walk) r.routes r.each, r.disjoint);
       }
     where

@@ -19,7 +19,9 @@ greedy_push g taken [] v = refl
 greedy_push g taken (x ∷ vs) v =
     elim (any (g.joined x) taken) as
     (λ b. cond b (greedy g taken (vs ++ (v ∷ []))) (greedy g (taken ++ (x ∷ [])) (vs ++ (v ∷ [])))
-    ≡ cond (any (g.joined v) (cond b (greedy g taken vs) (greedy g (taken ++ (x ∷ [])) vs))) (cond b (greedy g taken vs) (greedy g (taken ++ (x ∷ [])) vs)) (cond b (greedy g taken vs) (greedy g (taken ++ (x ∷ [])) vs) ++ (v ∷ [])))
+    ≡ cond (any (g.joined v) (cond b (greedy g taken vs) (greedy g (taken ++ (x ∷ [])) vs)))
+    (cond b (greedy g taken vs) (greedy g (taken ++ (x ∷ [])) vs))
+    (cond b (greedy g taken vs) (greedy g (taken ++ (x ∷ [])) vs) ++ (v ∷ [])))
     [ true ↦ greedy_push g taken vs v | false ↦ greedy_push g (taken ++ (x ∷ [])) vs v ]
 
 -- A list with nothing twice, and one number more that does not stand in it.

@@ -39,7 +39,10 @@ count_found p zero h = absurd (omega arith)
 count_found p (suc n) h =
     elim (cases_Bool (p n)) [
       | inl e ↦ (n, omega arith, e)
-      | inr e ↦ (let k : 0 < count p n = (let z : ◌≡◌ {A = ℕ} (cond (p n) 1 0) 0 = ap (λ (b : Bool). cond {A = ℕ} b 1 0) e in omega arith) in let r = count_found p n k in (r.0, omega (arith, r.1), r.2))
+      | inr e ↦
+          (let k : 0 < count p n = (let z : ◌≡◌ {A = ℕ} (cond (p n) 1 0) 0 = ap (λ (b : Bool). cond {A = ℕ} b 1 0) e in omega arith) in
+          let r = count_found p n k in
+          (r.0, omega (arith, r.1), r.2))
     ]
 
 -- A stronger test counts no more.

@@ -82,7 +82,9 @@ together (c ∷ cs) s h v =
     let size = All-head Sized c cs s in
     let first = All-head Computes c cs h in
     let tried = All-head ByTrying c cs v in
-    All-cons Holds c cs (first, by_theorem c size.0 size.1 first, tried) (together cs (All-tail Sized c cs s) (All-tail Computes c cs h) (All-tail ByTrying c cs v))
+    All-cons Holds c cs
+    (size.0, first, by_theorem c size.0 size.1 first, tried)
+    (together cs (All-tail Sized c cs s) (All-tail Computes c cs h) (All-tail ByTrying c cs v))
 
 pub check_maps_hold_lem : CheckMapsHold
 check_maps_hold_lem = together check_maps sized computed by_trying

@@ -96,13 +96,16 @@ module _ (g : Graph) (s : Simple g) (r δ : ℕ) where
         | inl yes' ↦
             elim (cases_Bool (goes_on g δ (place w) runs)) [
               | inr no' ↦
-                  subst (Q w runs) (sym (ap (λ (l : List ℕ). more_runs g δ (place w) l runs) (kept_on (g.joined r) w (up (suc w) m) yes') ∙ more_stop g δ (place w) w (filter (g.joined r) (up (suc w) m)) runs no'))
+                  subst (Q w runs)
+                  (sym (ap (λ (l : List ℕ). more_runs g δ (place w) l runs) (kept_on (g.joined r) w (up (suc w) m) yes')
+                  ∙ more_stop g δ (place w) w (filter (g.joined r) (up (suc w) m)) runs no'))
                   (stop w runs (omega arith) yes' no')
               | inl go ↦
                   subst (Q w runs)
                   (sym (ap (λ (l : List ℕ). more_runs g δ (place w) l runs) (kept_on (g.joined r) w (up (suc w) m) yes')
                   ∙ more_on g δ (place w) w (filter (g.joined r) (up (suc w) m)) runs go
-                  ∙ ap (λ (i : ℕ). more_runs g δ i (filter (g.joined r) (up (suc w) m)) (runs ++ round w m)) (let q : suc (place w) ≡ place (suc w) = omega (arith, count_on (g.joined r) w yes') in q)))
+                  ∙ ap (λ (i : ℕ). more_runs g δ i (filter (g.joined r) (up (suc w) m)) (runs ++ round w m))
+                  (let q : suc (place w) ≡ place (suc w) = omega (arith, count_on (g.joined r) w yes') in q)))
                   (on w m runs (rounds_from (suc w) m (runs ++ round w m)) (omega arith) yes' go (follow Q end skip stop on m (suc w) (runs ++ round w m) (omega arith)))
             ]
       ]

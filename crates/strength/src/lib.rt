@@ -95,7 +95,8 @@ pub fn runs_fit()
     ensures { RunsFit }
 {}
 
-// The check maps have the strengths, runs, pairs, cuts and connectivities that are written down.
+// The check maps are simple graphs with the strengths, runs, pairs, cuts and connectivities that
+// are written down.
 pub fn check_maps_hold()
     ensures { CheckMapsHold }
 {}
