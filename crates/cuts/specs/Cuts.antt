@@ -1,4 +1,12 @@
 -- Cuts, values of pairs, and connectivity, all by taking things away.
+--
+--   edges_part, vertices_part                whether edges, or vertices, part a and b
+--   edge_cuts, vertex_cuts                   the smallest that do; `others` are the vertices but a and b
+--   edge_value, vertex_value                 their size
+--   nearest_edge_cut, nearest_vertex_cut     of them the nearest to a
+--   is_edge_cut, is_vertex_cut               whether they part some two vertices; `outside_of` are the others
+--   complete                                 whether every two vertices are joined
+--   edge_connectivity, vertex_connectivity   the size of a smallest cut
 use Rattle.std.specs.Prelude.{ℕ, ◌-◌, Bool, cond, not, ◌||◌, List, filter, ◌==◌}
 use Rattle.graph.specs.Graph.{Graph}
 use Rattle.flows.specs.Lists.{upto, any, all, among}

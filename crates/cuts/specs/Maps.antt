@@ -1,4 +1,10 @@
 -- The maps to check by, and what both computations give on them.
+--
+--   graph_of                       a graph by its edges
+--   two_apart .. cliques_and_hub   the eight maps
+--   Outcome, outcome, found        what a computation gives, with the number of its runs
+--   Check, check, check_maps       a map with both outcomes; the eight
+--   Computes                       the computations give them
 use Rattle.std.specs.Prelude.{◌≡◌, ℕ, Bool, not, ◌&&◌, ◌||◌, List, [], ◌∷◌, length, Some, None, Option, ◌==◌, nat_le, nat_lt}
 use Rattle.graph.specs.Graph.{Graph}
 use Rattle.flows.specs.Lists.{among}

@@ -1,4 +1,12 @@
 -- Values and nearest cuts of a pair: what they are, and how a largest flow gives them.
+--
+--   both_ways, crossing_edges            each edge as two arcs; the edges that leave a set
+--   split, crossing_vertices             each vertex but the ends as an arc; the vertices at which arcs leave
+--   is_end, through, along               the arcs of the split digraph
+--   EdgeValueByFlow, VertexValueByFlow   a largest flow gives the value and the nearest cut
+--   NearestEdgeCut, NearestVertexCut     the nearest cut is a smallest one, and the only nearest
+--   EdgeValueLaws, VertexValueLaws       values have no direction, and are at most a degree
+--   VertexValueLeast                     nothing that parts the two is shorter than the value
 use Rattle.std.specs.Prelude.{◌≡◌, ℕ, ◌+◌, ◌-◌, ◌<◌, ◌≤◌, Bool, true, false, cond, not, ◌&&◌, ◌||◌, List, length, filter, ◌==◌, ◌≢◌, nat_lt}
 use Rattle.graph.specs.Graph.{Graph, Simple, degree}
 use Rattle.flows.specs.Lists.{upto, among}

@@ -1,11 +1,11 @@
 -- What parting two vertices is, and what a cut is, said by routes.
 --
---   NoRoute, SomeRoute                         no route leads from a to b; some route does
---   Outside                                    a vertex that is not in a list
---   EdgesPartByRoutes, VerticesPartByRoutes    what parts two vertices leaves them no route
---   EdgeCutByRoutes, VertexCutByRoutes         a cut leaves some two vertices no route
---   PartingTurns                               what parts a from b parts b from a
---   CompleteUncut                              a complete graph has no vertex cut
+--   NoRoute, SomeRoute                        no route leads from a to b; some route does
+--   Outside                                   a vertex that is not in a list
+--   EdgesPartByRoutes, VerticesPartByRoutes   what parts two vertices leaves them no route
+--   EdgeCutByRoutes, VertexCutByRoutes        a cut leaves some two vertices no route
+--   PartingTurns                              what parts a from b parts b from a
+--   CompleteUncut                             a complete graph has no vertex cut
 use Rattle.std.specs.Prelude.{◌≡◌, ℕ, ◌<◌, true, false, List, ◌≢◌, ◌↔◌}
 use Rattle.graph.specs.Graph.{Graph, Simple}
 use Rattle.flows.specs.Lists.{among}

@@ -1,9 +1,9 @@
 -- The bytes of routes: each route is a byte for its length in vertices, and then its vertices.
 --
---   bytes_of       the bytes of some routes, one behind another
---   route_bytes    how many they are
---   routes_in      so many routes, read off bytes
---   RoutesRead     reading what was written gives the routes back
+--   bytes_of      the bytes of some routes, one behind another
+--   route_bytes   how many they are
+--   routes_in     so many routes, read off bytes
+--   RoutesRead    reading what was written gives the routes back
 use Rattle.std.specs.Prelude.{◌≡◌, ℕ, zero, suc, cond, List, [], ◌∷◌, ◌++◌, length, take, drop, flat_map, nat_le}
 
 abbrev pub bytes_of : List (List ℕ) → List ℕ

@@ -1,12 +1,12 @@
 -- Lists of routes that obey the rules, and what holds between them and a parting set.
 --
---   Pairwise                     a relation between each item and every later one
---   second, Ascending            the second vertex of a route; routes in its order
---   inner                        the inner vertices of a route
---   ShareNoEdge, ShareOnlyEnds   what two routes have in common
---   EdgeRoutes, VertexRoutes     the rules
---   SharingByInner               to share only the ends is to share no inner vertex
---   RoutesFit, VertexRoutesFit   how many bytes routes take
+--   Pairwise                                   a relation between each item and every later one
+--   second, Ascending                          the second vertex of a route; routes in its order
+--   inner                                      the inner vertices of a route
+--   ShareNoEdge, ShareOnlyEnds                 what two routes have in common
+--   EdgeRoutes, VertexRoutes                   the rules
+--   SharingByInner                             to share only the ends is to share no inner vertex
+--   RoutesFit, VertexRoutesFit                 how many bytes routes take
 --   NoMoreEdgeRoutes, NoMoreVertexRoutes       no more routes than the value of the pair
 --   EachEdgeOnOneRoute, EachVertexOnOneRoute   routes against as many edges or vertices that part
 use Rattle.std.specs.Prelude.{◌≡◌, ℕ, ◌+◌, ◌-◌, ◌*◌, ◌<◌, ◌≤◌, Bool, true, false, ◌⊎◌, List, [], ◌∷◌, length, take, drop, All, filter, ◌≢◌, ◌↔◌, slice_index}

@@ -1,4 +1,16 @@
 -- Digraphs, unit flows, residual steps.
+--
+--   Digraph, Sound                                     nodes and arcs; arcs lead between nodes
+--   total, pairs_passing                               sums, and how many pairs pass a test
+--   out, into                                          how many arcs of a set go out of a node, and into it
+--   Flow                                               a unit flow from s to t
+--   leaving, entering, Between                         the arcs out of a set of nodes, and into it; a set with s and without t
+--   residual, residual_side                            where a flow can be changed; what s reaches by such steps
+--   stepped, pushed                                    a flow after a step, and after a path of them
+--   FlowBalance, FlowBound, LargestFlow, PushAddsOne   what holds of flows
+--   Most, MostExists                                   a flow that nothing leads on from; there is one
+--   ArcDisjoint, AllDisjoint                           routes that share no arc
+--   Peeled, FlowPeels                                  so many routes of a flow; there are as many as its value
 use Rattle.std.specs.Prelude.{◌≡◌, ℕ, zero, suc, ◌+◌, ◌<◌, ◌≤◌, Bool, true, false, cond, not, ◌&&◌, ◌||◌, List, [], ◌∷◌, length, All, ◌==◌, ◌≢◌}
 use Rattle.graph.specs.Graph.{count}
 use Rattle.flows.specs.Reach.{reaches}

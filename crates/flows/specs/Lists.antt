@@ -1,9 +1,9 @@
 -- Lists of numbers as sets, and lists in buffers.
 --
---   upto        the numbers below n, ascending
---   any, all    some item passes a test; every item does
---   among       a number stands in a list
---   in_front    a list in place of the first entries of a buffer; the others keep their content
+--   upto       the numbers below n, ascending
+--   any, all   some item passes a test; every item does
+--   among      a number stands in a list
+--   in_front   a list in place of the first entries of a buffer; the others keep their content
 use Rattle.std.specs.Prelude.{ℕ, zero, suc, Bool, true, false, ◌&&◌, ◌||◌, List, [], ◌∷◌, ◌++◌, length, drop, nat_eq}
 
 -- The numbers below n, ascending.

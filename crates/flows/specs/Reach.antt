@@ -1,4 +1,8 @@
 -- What is reached from a number by steps of a relation on the numbers below n.
+--
+--   spread             some numbers, and what is one step from them
+--   rounds             a change done so many times
+--   reached, reaches   what a number reaches; whether it reaches another
 use Rattle.std.specs.Prelude.{ℕ, zero, suc, Bool, ◌||◌, List, [], ◌∷◌, filter}
 use Rattle.flows.specs.Lists.{upto, any, among}
 

@@ -1,4 +1,8 @@
 -- Routes: lists of vertices, each joined to the next, none twice.
+--
+--   Walk, Apart, Route   a list that leads from a to b; nothing stands twice; both
+--   goes, edge_on        a step that a route takes; an edge that it goes along in either direction
+--   ReachedByRoute       reached exactly where a route leads
 use Rattle.std.specs.Prelude.{◌≡◌, ℕ, ◌<◌, Bool, true, false, ◌&&◌, ◌||◌, List, [], ◌∷◌, ◌==◌}
 use Rattle.flows.specs.Lists.{among}
 use Rattle.flows.specs.Reach.{reaches}

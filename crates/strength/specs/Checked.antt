@@ -1,7 +1,7 @@
 -- The check maps, from the definitions, all in one statement.
 --
---   Holds            what is said of a check map
---   CheckMapsHold    it is true of each
+--   Holds           what is said of a check map
+--   CheckMapsHold   it is true of each
 use Rattle.std.specs.Prelude.{◌≡◌, All}
 use Rattle.graph.specs.Graph.{Simple}
 use Rattle.cuts.specs.Cuts.{edge_connectivity, vertex_connectivity}

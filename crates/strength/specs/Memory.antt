@@ -1,4 +1,7 @@
 -- The memory that a question is lent suffices: how many entries cuts and runs take at most.
+--
+--   CutsFit   a cut has fewer items than there are vertices
+--   RunsFit   how many runs there are at most; none is listed twice
 use Rattle.std.specs.Prelude.{◌≡◌, ℕ, ◌-◌, ◌/◌, ◌<◌, ◌≤◌, false, not, length, ◌≢◌}
 use Rattle.graph.specs.Graph.{Graph, Simple, edges_below, same_edge}
 use Rattle.cuts.specs.Cuts.{nearest_edge_cut, nearest_vertex_cut}

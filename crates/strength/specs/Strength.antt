@@ -2,13 +2,13 @@
 -- their cut; no cut is smaller; the pair that they name has that value, and their cut parts it;
 -- their runs are few, and each has the value of its pair.
 --
---   FewEdgeRuns, FewVertexRuns               how many runs there are at most
---   EdgeRunsTrue, VertexRunsTrue             what each listed run is
---   NoSmallerEdgeCut, NoSmallerVertexCut     no cut is smaller than the strength
---   EdgeStrength, VertexStrength             the strength is the connectivity
---   EdgePair, VertexPair                     the value of the named pair is the strength
---   EdgeCutFound, VertexCutFound             the cut is one, of the strength's size
---   EdgeCutParts, VertexCutParts             and it parts the named pair
+--   FewEdgeRuns, FewVertexRuns             how many runs there are at most
+--   EdgeRunsTrue, VertexRunsTrue           what each listed run is
+--   NoSmallerEdgeCut, NoSmallerVertexCut   no cut is smaller than the strength
+--   EdgeStrength, VertexStrength           the strength is the connectivity
+--   EdgePair, VertexPair                   the value of the named pair is the strength
+--   EdgeCutFound, VertexCutFound           the cut is one, of the strength's size
+--   EdgeCutParts, VertexCutParts           and it parts the named pair
 use Rattle.std.specs.Prelude.{◌≡◌, ℕ, ◌+◌, ◌-◌, ◌*◌, ◌/◌, ◌<◌, ◌≤◌, true, false, List, length, Some, ◌≢◌}
 use Rattle.graph.specs.Graph.{Graph, Simple}
 use Rattle.flows.specs.Lists.{among}
@@ -30,7 +30,8 @@ EdgeStrength = (g : Graph) → Simple g → 2 ≤ g.order → (edge_computation 
 abbrev pub EdgePair : Type 0
 EdgePair =
     (g : Graph) → Simple g → 2 ≤ g.order
-    → (a : ℕ) × (b : ℕ) × ((edge_computation g).pair ≡ Some (a, b)) × (a < g.order) × (b < g.order) × (a ≢ b) × (edge_value g a b ≡ (edge_computation g).strength)
+    → (a : ℕ) × (b : ℕ) × ((edge_computation g).pair ≡ Some (a, b)) × (a < g.order) × (b < g.order) × (a ≢ b)
+    × (edge_value g a b ≡ (edge_computation g).strength)
 
 -- At most half the order less one.
 abbrev pub FewEdgeRuns : Type 0

@@ -1,12 +1,12 @@
 -- Variants of the vertex computation that look right and are wrong, each shown wrong by a map.
 --
---   far_strength                  what the runs from the sparsest vertex give
---   rounds_with, strength_with    the rounds with other ends, and what they give
---   read_at_near_end              a cut, read at the wrong end of the arcs that leave a side
---   seven                         a map of seven vertices
---   GivesConnectivity             a computation is right on every graph
---   VariantsRefuted, SevenRefutes, HubRefutes, NearEndRefuted    what is wrong, and where
---   RightEnds                     the rounds with the right ends are those of the computation
+--   far_strength                                                what the runs from the sparsest vertex give
+--   rounds_with, strength_with                                  the rounds with other ends, and what they give
+--   read_at_near_end                                            a cut, read at the wrong end of the arcs that leave a side
+--   seven                                                       a map of seven vertices
+--   GivesConnectivity                                           a computation is right on every graph
+--   VariantsRefuted, SevenRefutes, HubRefutes, NearEndRefuted   what is wrong, and where
+--   RightEnds                                                   the rounds with the right ends are those of the computation
 use Rattle.std.specs.Prelude.{◌≡◌, ℕ, suc, ◌+◌, ◌-◌, ◌<◌, ◌≤◌, true, false, cond, not, ◌&&◌, List, [], ◌∷◌, ◌++◌, take, filter, ◌≢◌, nat_le}
 use Rattle.graph.specs.Graph.{Graph, Simple}
 use Rattle.flows.specs.Lists.{upto, any, among}
@@ -42,7 +42,10 @@ read_at_near_end g a b =
 
 -- A map of seven vertices where the runs from r give 4, and the truth is 3.
 abbrev pub seven : Graph
-seven = graph_of 7 (edge 0 3 ∷ edge 0 4 ∷ edge 0 5 ∷ edge 0 6 ∷ edge 1 3 ∷ edge 1 4 ∷ edge 1 5 ∷ edge 1 6 ∷ edge 2 3 ∷ edge 2 4 ∷ edge 2 5 ∷ edge 2 6 ∷ edge 3 6 ∷ edge 4 5 ∷ [])
+seven =
+    graph_of 7
+    (edge 0 3 ∷ edge 0 4 ∷ edge 0 5 ∷ edge 0 6 ∷ edge 1 3 ∷ edge 1 4 ∷ edge 1 5
+    ∷ edge 1 6 ∷ edge 2 3 ∷ edge 2 4 ∷ edge 2 5 ∷ edge 2 6 ∷ edge 3 6 ∷ edge 4 5 ∷ [])
 
 -- A computation gives the vertex connectivity of every graph of two or more vertices that is
 -- not complete.
