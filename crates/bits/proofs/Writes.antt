@@ -4,7 +4,7 @@ use lib.Bits.{bit_or, bit_and}
 use Rattle.std.proofs.lemmas.Nat.{pow_below, one_shl}
 use Rattle.std.proofs.lemmas.Bool.Decides.{nat_tests}
 use Rattle.std.proofs.lemmas.Bool.{cases_eq, ne_eqb, cond-false}
-use Rattle.bits.specs.Bits.{bit, has, Written}
+use Rattle.bits.specs.Bits.{bit, has, Written, with_bit}
 use Rattle.bits.proofs.Bits.{pow_bit, bit-or}
 use Rattle.bits.proofs.Turns.{bit-and, word_turned}
 
@@ -38,16 +38,23 @@ written_off x k small =
           ∙ and_mask (bit x j) (eqb j k);
     }
 
+-- What is computed is that word.
+pub value_on : (x k : ℕ) (on : Bool) → k < 64 → on ≡ true → bit_or x (1 * 2 ^ k % 2 ^ 64) ≡ with_bit x k on
+value_on x k on small is = rw is (ap (bit_or x) (one_shl k 64 small))
+
+pub value_off : (x k : ℕ) (on : Bool) → k < 64 → on ≡ false → bit_and x ((2 ^ 64 - 1) - 1 * 2 ^ k % 2 ^ 64) ≡ with_bit x k on
+value_off x k on small is = rw is (ap (λ (m : ℕ). bit_and x ((2 ^ 64 - 1) - m)) (one_shl k 64 small))
+
 -- In one word, equal places are equal numbers.
 same_place : (j k : ℕ) → j / 64 ≡ k / 64 → eqb (j % 64) (k % 64) ≡ eqb j k
 same_place j k h = grind (arith, nat_tests)
 
 -- The words with one of them changed at one bit: that number is in the set or not, and the others are
 -- as they were.
-pub with_number : (words : List ℕ) (k y : ℕ) (on : Bool) → k / 64 < length words
+pub set_number : (words : List ℕ) (k y : ℕ) (on : Bool) → k / 64 < length words
     → Written (get_or words (k / 64) 0) (k % 64) on y
     → (j : ℕ) → has (set words (k / 64) y) 0 j ≡ cond (eqb j k) on (has words 0 j)
-with_number words k y on h written j =
+set_number words k y on h written j =
     let at = k / 64 in
     let i = 0 + j / 64 in
     let old = λ (z : ℕ). bit (get_or words z 0) (j % 64) in

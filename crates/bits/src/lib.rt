@@ -4,7 +4,7 @@
 
 ghost use Rattle.std.specs.Prelude.{◌≡◌, ℕ, ◌-◌, ◌*◌, ◌/◌, ◌<◌, ◌≤◌, not, ◌&&◌, ◌||◌, length, drop, if◌then◌else◌, ◌==◌};
 ghost use Rattle.graph.specs.Graph.{first};
-ghost use Rattle.bits.specs.Bits.{bit, has, Written};
+ghost use Rattle.bits.specs.Bits.{bit, has, Written, with_bit, with_number};
 
 // How many bits a word has.
 const WORD_BITS: u16 = 64;
@@ -19,10 +19,11 @@ fn word_has(word: u64, k: u16) -> bool
 }
 
 // A word with bit k set, or clear, and its other bits as they are.
-#[tactic(auto, using(crate::proofs::Writes::written_on, crate::proofs::Writes::written_off))]
+#[tactic(auto, using(crate::proofs::Writes::written_on, crate::proofs::Writes::written_off, crate::proofs::Writes::value_on, crate::proofs::Writes::value_off))]
 fn word_with(word: u64, k: u16, on: bool) -> u64
     requires { k < 64 }
-    ensures { Written word k on result }
+    ensures bits { Written word k on result }
+    ensures value { result ≡ with_bit word k on }
 {
     let mask: u64 = 1 << k;
     if on { word | mask } else { word & !mask }
@@ -57,9 +58,10 @@ pub fn has(words: &[u64], k: u16) -> bool
 }
 
 // Puts number k into the set, or takes it out.
-#[tactic(auto, using(crate::proofs::Writes::with_number))]
+#[tactic(auto, using(crate::proofs::Writes::set_number))]
 pub fn set(words: &mut [u64], k: u16, on: bool)
     requires { k / 64 < length words.old }
+    ensures words { words.new ≡ with_number words.old 0 k on }
     ensures bits { (j : ℕ) → has words.new 0 j ≡ (if j == k then on else has words.old 0 j) }
     ensures rest { (m : ℕ) → k / 64 < m → drop m words.new ≡ drop m words.old }
 {
