@@ -1,26 +1,30 @@
 -- A join and a part on cells: what the search for the number found, and what the shift leaves.
-use Rattle.std.proofs.Common.{◌≡◌, ℕ, ◌+◌, ◌-◌, ◌<◌, ◌≤◌, true, false, ◌&&◌, eqb, ltb, List, length, get_or, Decides, sym, ap, ◌∙◌, subst, arith}
+use Rattle.std.proofs.Common.{◌≡◌, ℕ, ◌+◌, ◌-◌, ◌<◌, ◌≤◌, true, false, ◌&&◌, eqb, ltb, List, length, get_or, Decides, sym, refl, ap, ◌∙◌, subst, arith}
 use Rattle.std.proofs.lemmas.Bool.Decides.{Decides-and, Decides-ltb, Decides-eqb}
-use Rattle.graph.specs.Graph.{order_limit, edges, with_edge, without_edge}
+use Rattle.graph.specs.Graph.{edges, with_edge, without_edge}
+use Rattle.model.specs.Model.{make_limit}
 use Rattle.graph.proofs.Edges.{one_edge_more_lem, one_edge_less_lem}
 use Rattle.list.specs.Cells.{code, held, Rising, listing, listing_simple, place, inserted_cells, removed_cells}
-use Rattle.list.specs.Meaning.{codes_of}
+use Rattle.list.specs.Edges.{Listed}
+use Rattle.list.specs.Meaning.{codes_of, laid_cells, taken_cells}
 use Rattle.list.specs.declared.List.{List as Store}
 use Rattle.list.proofs.Shifts.{Inserted, Removed, inserted_places, removed_places}
-use Rattle.list.proofs.Held.{held_at, above_place, rising_inserted, rising_removed}
+use Rattle.list.proofs.Held.{held_at, above_place, rising_inserted, rising_removed, coded_inserted, coded_removed}
+use Rattle.list.proofs.Told.{listed, coded_of}
 use Rattle.list.proofs.Listings.{listing_inside, listing_inserted, listing_removed}
 
 -- A map of n vertices in the first k cells, with the facts that a list keeps.
 pub record Kept (n k : ℕ) (xs : List ℕ) : Type 0 where
   pub some : 1 ≤ n
-  pub small : n ≤ order_limit
+  pub small : n ≤ make_limit
   pub fits : k ≤ length xs
   pub rising : Rising k xs
   pub tally : edges (listing n k xs) ≡ k
+  pub listed : Listed (listing n k xs) xs
 
 -- What a list says by its own fields.
 pub kept_of : (s : Store) → Kept s.n s.count (codes_of s)
-kept_of s = record { some = s.some; small = s.small; fits = s.fits; rising = s.rising; tally = s.tally }
+kept_of s = record { some = s.some; small = s.small; fits = s.fits; rising = s.rising; tally = s.tally; listed = s.listed }
 
 -- Two different vertices, and the place at of their number d among those cells.
 pub record Sought (n k : ℕ) (xs : List ℕ) (u v d at : ℕ) : Type 0 where
@@ -43,12 +47,12 @@ module _ (n k : ℕ) (xs : List ℕ) (u v d at : ℕ) (kept : Kept n k xs) (s : 
       decides.0 (held_here ∙ ap (held k xs) s.number ∙ listing_inside n k xs u v s.first s.second s.differ ∙ on)
 
   -- The cells after an insertion there are those after a join.
-  pub inserted_value : (ys : List ℕ) → ys ≡ inserted_cells xs k at d → ys ≡ inserted_cells xs k (place k xs (code u v)) (code u v)
-  inserted_value ys e = e ∙ rw (s.value, s.number)
+  pub inserted_value : (ys : List ℕ) → ys ≡ inserted_cells xs k at d → ys ≡ laid_cells (listing n k xs) xs u v
+  inserted_value ys e = e ∙ rw (s.value, s.number) refl ∙ ap (λ (m : ℕ). inserted_cells xs m (place m xs (code u v)) (code u v)) (sym kept.tally)
 
   -- The cells after a removal there are those after a part.
-  pub removed_value : (ys : List ℕ) → ys ≡ removed_cells xs k at → ys ≡ removed_cells xs k (place k xs (code u v))
-  removed_value ys e = e ∙ rw (s.value, s.number)
+  pub removed_value : (ys : List ℕ) → ys ≡ removed_cells xs k at → ys ≡ taken_cells (listing n k xs) xs u v
+  removed_value ys e = e ∙ rw (s.value, s.number) refl ∙ ap (λ (m : ℕ). removed_cells xs m (place m xs (code u v))) (sym kept.tally)
 
   -- What stands at each place after the insertion.
   inserted_in : (ys : List ℕ) → k < length xs → ys ≡ inserted_cells xs k at d → Inserted xs ys k at d
@@ -73,13 +77,13 @@ module _ (n k : ℕ) (xs : List ℕ) (u v d at : ℕ) (kept : Kept n k xs) (s : 
   inserted_kept ys room apart e =
       let absent : held k xs d ≡ false = ap (held k xs) s.number ∙ listing_inside n k xs u v s.first s.second s.differ ∙ apart in
       let more = (one_edge_more_lem (listing n k xs) u v (listing_simple n k xs kept.some kept.small) s.first s.second s.differ apart).1 in
-      record {
-        some = kept.some;
-        small = kept.small;
-        fits = omega (arith, inserted_size ys room e);
-        rising = rising_inserted k xs ys at d kept.rising s.bound s.below (above_place k xs d at s.above absent) (inserted_in ys room e);
-        tally = ap edges (inserted_graph ys room e) ∙ more ∙ ap (λ (x : ℕ). x + 1) kept.tally;
-      }
+      let e' = inserted_in ys room e in
+      let size : k + 1 ≤ length ys = omega (arith, inserted_size ys room e) in
+      let up = rising_inserted k xs ys at d kept.rising s.bound s.below (above_place k xs d at s.above absent) e' in
+      let tally = ap edges (inserted_graph ys room e) ∙ more ∙ ap (λ (x : ℕ). x + 1) kept.tally in
+      let coded = coded_inserted n k xs ys at u v (coded_of n k xs kept.fits kept.tally kept.listed) (omega (arith, kept.small)) s.first s.second s.differ s.bound
+      (subst (λ (x : ℕ). Inserted xs ys k at x) s.number e') in
+      record { some = kept.some; small = kept.small; fits = size; rising = up; tally = tally; listed = listed n (k + 1) ys size up coded tally }
 
   -- A removal keeps the number of cells.
   pub removed_size : (ys : List ℕ) → at < k → ys ≡ removed_cells xs k at → length ys ≡ length xs
@@ -94,10 +98,9 @@ module _ (n k : ℕ) (xs : List ℕ) (u v d at : ℕ) (kept : Kept n k xs) (s : 
   pub removed_kept : (ys : List ℕ) → at < k → get_or xs at 0 ≡ d → (listing n k xs).joined u v ≡ true → ys ≡ removed_cells xs k at → Kept n (k - 1) ys
   removed_kept ys l stood on e =
       let less = (one_edge_less_lem (listing n k xs) u v (listing_simple n k xs kept.some kept.small) on).1 in
-      record {
-        some = kept.some;
-        small = kept.small;
-        fits = omega (arith, removed_size ys l e, kept.fits);
-        rising = rising_removed k xs ys at kept.rising l (removed_in ys l e);
-        tally = ap edges (removed_graph ys l stood e) ∙ omega (arith, less, kept.tally);
-      }
+      let e' = removed_in ys l e in
+      let size : k - 1 ≤ length ys = omega (arith, removed_size ys l e, kept.fits) in
+      let up = rising_removed k xs ys at kept.rising l e' in
+      let tally : edges (listing n (k - 1) ys) ≡ k - 1 = ap edges (removed_graph ys l stood e) ∙ omega (arith, less, kept.tally) in
+      let coded = coded_removed n k xs ys at (coded_of n k xs kept.fits kept.tally kept.listed) e' in
+      record { some = kept.some; small = kept.small; fits = size; rising = up; tally = tally; listed = listed n (k - 1) ys size up coded tally }

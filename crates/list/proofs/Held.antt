@@ -1,10 +1,10 @@
 -- What cells hold: where a number stands among ascending cells, and what an insertion and a removal change.
-use Rattle.std.proofs.Common.{◌≡◌, ℕ, zero, suc, ◌+◌, ◌-◌, ◌<◌, ◌≤◌, Bool, true, false, cond, not, ◌&&◌, ◌||◌, eqb, ltb, ◌⊎◌, List, get_or, Decides, sym, refl, ap, ◌∙◌, inl, inr, ⊎_elim, arith}
+use Rattle.std.proofs.Common.{◌≡◌, ℕ, zero, suc, ◌+◌, ◌-◌, ◌/◌, ◌%◌, ◌<◌, ◌≤◌, Bool, true, false, cond, not, ◌&&◌, ◌||◌, eqb, ltb, ◌⊎◌, List, get_or, Decides, sym, refl, ap, ◌∙◌, subst, inl, inr, ⊎_elim, arith}
 use Rattle.std.proofs.lemmas.Bool.Decides.{Decides-below_or, Decides-eqb, Decides-or, Decides-and, Decides-not, same_from_decides, Decides-like}
 use Rattle.std.proofs.lemmas.Bool.{cases_Bool, cases_eq, cases_lt, lt-ltb, le-ltb, true≢false}
 use Rattle.graph.specs.Graph.{count}
 use Rattle.graph.proofs.Counts.{count_short}
-use Rattle.list.specs.Cells.{held, Rising, place}
+use Rattle.list.specs.Cells.{code, held, Rising, place}
 use Rattle.list.proofs.Shifts.{Inserted, Removed}
 
 -- One of the first k cells holds c.
@@ -27,6 +27,10 @@ held_nowhere k xs c none =
     (λ on. let h = (held_decides k xs c).0 on in absurd (none h.0 h.1 h.2))
     (λ off. off)
     (cases_Bool (held k xs c))
+
+-- What is held stands in one of the cells.
+pub held_index : (k : ℕ) (xs : List ℕ) (c : ℕ) → held k xs c ≡ true → (i : ℕ) × (i < k) × (get_or xs i 0 ≡ c)
+held_index k xs c on = (held_decides k xs c).0 on
 
 -- Where all pass, all are counted.
 count_all : (p : ℕ → Bool) (n : ℕ) → ((i : ℕ) → i < n → p i ≡ true) → count p n ≡ n
@@ -149,4 +153,37 @@ rising_removed k xs ys at up l e i j ij jk =
     (λ ja. omega (arith, e.before i ia, e.after j ja (omega arith), up i (j + 1) (omega arith) (omega arith)))
     (cases_lt j at))
     (λ ia. omega (arith, e.after i ia (omega arith), e.after j (omega arith) (omega arith), up (i + 1) (j + 1) (omega arith) (omega arith)))
+    (cases_lt i at)
+
+-- A number of two vertices: the lower one, times 256, and the higher one.
+abbrev pub Pair : ℕ → ℕ → Type 0
+Pair n c = (c / 256 < c % 256) × (c % 256 < n)
+
+-- The first k cells hold such numbers.
+abbrev pub Coded : ℕ → ℕ → List ℕ → Type 0
+Coded n k xs = (i : ℕ) → i < k → Pair n (get_or xs i 0)
+
+-- Two vertices have one.
+code_pair : (n u v : ℕ) → n ≤ 256 → u < n → v < n → (u ≡ v → ⊥) → Pair n (code u v)
+code_pair n u v small hu hv ne = (omega (arith, ne), omega (arith, ne))
+
+-- The number of two vertices put in leaves numbers of two vertices.
+pub coded_inserted : (n k : ℕ) (xs ys : List ℕ) (at u v : ℕ) → Coded n k xs → n ≤ 256 → u < n → v < n → (u ≡ v → ⊥) → at ≤ k
+    → Inserted xs ys k at (code u v) → Coded n (k + 1) ys
+coded_inserted n k xs ys at u v coded small hu hv ne le e i l =
+    ⊎_elim
+    (λ m. subst (Pair n) (sym (e.before i m)) (coded i (omega arith)))
+    (λ m. ⊎_elim
+    (λ q. subst (Pair n) (sym (ap (λ (j : ℕ). get_or ys j 0) q ∙ e.here)) (code_pair n u v small hu hv ne))
+    (λ q. let j : i ≡ i - 1 + 1 = omega (arith, q) in
+    subst (Pair n) (sym (ap (λ (j : ℕ). get_or ys j 0) j ∙ e.after (i - 1) (omega (arith, q)) (omega (arith, q)))) (coded (i - 1) (omega (arith, q))))
+    (cases_eq i at))
+    (cases_lt i at)
+
+-- And so does a number taken out.
+pub coded_removed : (n k : ℕ) (xs ys : List ℕ) (at : ℕ) → Coded n k xs → Removed xs ys k at → Coded n (k - 1) ys
+coded_removed n k xs ys at coded e i l =
+    ⊎_elim
+    (λ m. subst (Pair n) (sym (e.before i m)) (coded i (omega arith)))
+    (λ m. subst (Pair n) (sym (e.after i m (omega arith))) (coded (i + 1) (omega arith)))
     (cases_lt i at)

@@ -4,3 +4,4 @@ pub mod Listings
 pub mod Changes
 pub mod Searches
 pub mod Chains
+pub mod Told

@@ -6,11 +6,12 @@
 --   place                            where c belongs among the first k cells
 --   inserted_cells, removed_cells    the cells after a number is put in, and after one is taken out
 use Rattle.std.specs.Prelude.{◌≡◌, ℕ, zero, suc, ◌+◌, ◌-◌, ◌*◌, ◌<◌, ◌≤◌, min, max, Bool, true, false, not, ◌&&◌, ◌||◌, ltb, List, ◌∷◌, ◌++◌, take, drop, ◌==◌, nat_lt, slice_index, slice_range, refl}
-use Rattle.std.proofs.Common.{sym, ap, ap₂}
-use Rattle.std.proofs.Math.Nat.{min_comm, max_comm}
+use Rattle.std.proofs.Common.{sym, ap, ap₂, lit≤}
+use Rattle.std.proofs.Math.Nat.{min_comm, max_comm, le_trans}
 use Rattle.std.proofs.lemmas.Bool.{and_parts, and_left, and_right, not_from_true, eq-eqb, ltb-true}
 use Rattle.std.proofs.lemmas.Bool.Decides.{same_from_decides, Decides-eqb, Decides-like}
-use Rattle.graph.specs.Graph.{Graph, Simple, order_limit, count}
+use Rattle.graph.specs.Graph.{Graph, Simple, count}
+use Rattle.model.specs.Model.{make_limit}
 
 -- The lower end times 256 and the higher end.
 abbrev pub code : ℕ → ℕ → ℕ
@@ -64,10 +65,10 @@ code_swap : (u v : ℕ) → code u v ≡ code v u
 code_swap u v = ap₂ (λ (x y : ℕ). x * 256 + y) (min_comm u v) (max_comm u v)
 
 -- Whatever the cells hold, they mean a simple graph.
-pub listing_simple : (n k : ℕ) (xs : List ℕ) → 1 ≤ n → n ≤ order_limit → Simple (listing n k xs)
+pub listing_simple : (n k : ℕ) (xs : List ℕ) → 1 ≤ n → n ≤ make_limit → Simple (listing n k xs)
 listing_simple n k xs some small = record {
   some = some;
-  small = small;
+  small = le_trans small (lit≤ tt);
   symmetric = λ u v.
       ap₂ (λ (x y : Bool). x && y)
       (ap₂ (λ (x y : Bool). x && not y) (and_swap (nat_lt u n) (nat_lt v n)) (eqb_swap u v))

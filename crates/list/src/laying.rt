@@ -1,7 +1,8 @@
 // A list with no edge, and an edge laid and taken up where that is known to go. The clauses
 // `cells` say what the cells hold.
 ghost use Rattle.std.specs.Prelude.{◌≡◌, ◌<◌, ◌≤◌, true, false, ◌≢◌};
-ghost use Rattle.graph.specs.Graph.{order_limit, empty, with_edge, without_edge};
+ghost use Rattle.graph.specs.Graph.{empty, with_edge, without_edge};
+ghost use Rattle.model.specs.Model.{make_limit};
 ghost use Rattle.list.specs.Meaning.{codes_of, graph_of, capacity_of, laid_cells, taken_cells};
 
 use crate::List;
@@ -13,7 +14,7 @@ impl<'a> List<'a> {
     // takes it.
     pub fn blank(n: u16, cells: &'a mut [u16]) -> List<'a>
         requires some { 1 ≤ n }
-        requires small { n ≤ order_limit }
+        requires small { n ≤ make_limit }
         ensures graph { graph_of result ≡ empty n }
         ensures cells { codes_of result ≡ cells.old }
     {
@@ -32,7 +33,7 @@ impl<'a> List<'a> {
         requires room { self.old.count < capacity_of self.old }
         ensures graph { graph_of self.new ≡ with_edge (graph_of self.old) u v }
         ensures most { capacity_of self.new ≡ capacity_of self.old }
-        ensures cells { codes_of self.new ≡ laid_cells self.old u v }
+        ensures cells { codes_of self.new ≡ laid_cells (graph_of self.old) (codes_of self.old) u v }
     {
         let c = edge_code(u, v);
         let at = self.seek(c);
@@ -50,7 +51,7 @@ impl<'a> List<'a> {
         requires joined { (graph_of self.old).joined u v ≡ true }
         ensures graph { graph_of self.new ≡ without_edge (graph_of self.old) u v }
         ensures most { capacity_of self.new ≡ capacity_of self.old }
-        ensures cells { codes_of self.new ≡ taken_cells self.old u v }
+        ensures cells { codes_of self.new ≡ taken_cells (graph_of self.old) (codes_of self.old) u v }
     {
         let at = self.seek(edge_code(u, v));
         // Lent whole and once, as in `lay`.

@@ -2,8 +2,10 @@
 #![tactic(auto)]
 
 ghost use Rattle.std.specs.Prelude.{◌≡◌, ℕ, ◌≤◌, length};
-ghost use Rattle.graph.specs.Graph.{order_limit, edges};
+ghost use Rattle.graph.specs.Graph.{edges};
+ghost use Rattle.model.specs.Model.{make_limit};
 ghost use Rattle.list.specs.Cells.{Rising, listing};
+ghost use Rattle.list.specs.Edges.{Listed};
 
 mod codes;
 mod editing;
@@ -18,8 +20,9 @@ pub struct List<'a> {
     count: usize,
     codes: &'a mut [u16],
     ghost some: { 1 ≤ n },
-    ghost small: { n ≤ order_limit },
+    ghost small: { n ≤ make_limit },
     ghost fits: { count ≤ length codes.now },
     ghost rising: { Rising count codes.now },
     ghost tally: { edges (listing n count codes.now) ≡ count },
+    ghost listed: { Listed (listing n count codes.now) codes.now },
 }

@@ -2,12 +2,13 @@
 // Every value of such a type means a simple graph, and all contracts are about that graph.
 #![tactic(auto)]
 
-ghost use Rattle.std.specs.Prelude.{◌≡◌, ℕ, false, is_ok, Ok};
+ghost use Rattle.std.specs.Prelude.{◌≡◌, ℕ, ◌≤◌, false, List, is_ok, Ok, IsOk, ◌↔◌};
 ghost use Rattle.graph.specs.Graph.{Graph, Simple, degree, next, empty};
-ghost use Rattle.model.specs.Model.{Lent, unmade, bare};
+ghost use Rattle.model.specs.Model.{Lent, unmade, bare, make_limit};
+ghost use Rattle.model.specs.Meaning.{JoinAccepted, PartAccepted};
 ghost use Rattle.model.specs.Table.{reply, reply_on};
 ghost use Rattle.model.specs.declared.call.Call.TheVariants.{Make, Join, Part};
-ghost use Rattle.store.specs.Change.{after_join, after_part};
+ghost use Rattle.store.specs.Change.{after_join, after_part, held_after};
 ghost use Rattle.store.specs.Ends.{ends_reply};
 ghost use Rattle.store.specs.Outside.{next_outside};
 ghost use Rattle.rows.specs.Marks.{marked};
@@ -77,7 +78,8 @@ pub trait Map {
 }
 
 // A store whose map can be edited, with a fixed capacity in edges. A refused edit leaves the
-// whole value as it was, its memory included.
+// whole value as it was, its memory included; what an accepted one leaves in the memory is a
+// function of the graph, of what the memory held and of the two vertices.
 pub trait Editable: Map + Sized + Drop {
     // What a store is made over.
     type Memory: Drop;
@@ -88,6 +90,21 @@ pub trait Editable: Map + Sized + Drop {
     // What such memory is good for.
     ghost lent: { Self.Memory → Lent };
 
+    // All that the memory under a store holds, word by word or cell by cell.
+    ghost held: { Self → List ℕ };
+
+    // What memory holds after a make of n vertices over it.
+    ghost fresh: { Self.Memory → ℕ → List ℕ };
+
+    // What memory that held such numbers under a graph holds with an edge laid, and with one taken
+    // up.
+    ghost with_edge_in: { Graph → List ℕ → ℕ → ℕ → List ℕ };
+
+    ghost without_edge_in: { Graph → List ℕ → ℕ → ℕ → List ℕ };
+
+    // When such numbers mean a graph.
+    ghost Means: { Graph → List ℕ → Type 0 };
+
     // Whether a map of n vertices can be made over the memory, by the table of refusals.
     fn room(n: u16, memory: &Self::Memory) -> Result<(), Refusal>
         ensures { result ≡ reply (lent memory.now) unmade (Make n) };
@@ -95,8 +112,9 @@ pub trait Editable: Map + Sized + Drop {
     // A map of n vertices and no edge; `room` says when that goes.
     fn make(n: u16, memory: Self::Memory) -> Self
         requires { reply (lent memory) unmade (Make n) ≡ Ok tt }
-        ensures graph { Self.Map.graph result ≡ empty n }
-        ensures most { most result ≡ (lent memory).capacity n };
+        ensures graph { Self.graph result ≡ empty n }
+        ensures most { most result ≡ (lent memory).capacity n }
+        ensures held { held result ≡ fresh memory n };
 
     // How many edges the store takes.
     fn capacity(&mut self) -> usize
@@ -105,15 +123,25 @@ pub trait Editable: Map + Sized + Drop {
 
     // Lays the edge between u and v.
     fn join(&mut self, u: Vertex, v: Vertex) -> Result<(), Refusal>
-        ensures reply { result ≡ reply_on (bare (Self.Map.graph self.old) (most self.old)) (Join u v) }
-        ensures after { Self.Map.graph self.new ≡ after_join result (Self.Map.graph self.old) u v }
+        ensures reply { result ≡ reply_on (bare (Self.graph self.old) (most self.old)) (Join u v) }
+        ensures accepted { IsOk result ↔ JoinAccepted (Self.graph self.old) (most self.old) u v }
+        ensures after { Self.graph self.new ≡ after_join result (Self.graph self.old) u v }
+        ensures held { held self.new ≡ held_after result (with_edge_in (Self.graph self.old) (held self.old) u v) (held self.old) }
         ensures most { most self.new ≡ most self.old }
         ensures unchanged { is_ok result ≡ false → self.new ≡ self.old };
 
     // Takes the edge between u and v up, and frees its place.
     fn part(&mut self, u: Vertex, v: Vertex) -> Result<(), Refusal>
-        ensures reply { result ≡ reply_on (bare (Self.Map.graph self.old) (most self.old)) (Part u v) }
-        ensures after { Self.Map.graph self.new ≡ after_part result (Self.Map.graph self.old) u v }
+        ensures reply { result ≡ reply_on (bare (Self.graph self.old) (most self.old)) (Part u v) }
+        ensures accepted { IsOk result ↔ PartAccepted (Self.graph self.old) u v }
+        ensures after { Self.graph self.new ≡ after_part result (Self.graph self.old) u v }
+        ensures held { held self.new ≡ held_after result (without_edge_in (Self.graph self.old) (held self.old) u v) (held self.old) }
         ensures most { most self.new ≡ most self.old }
         ensures unchanged { is_ok result ≡ false → self.new ≡ self.old };
+
+    // A store has no more vertices than a make accepts.
+    ghost few: { (s : Self) → (Self.graph s).order ≤ make_limit };
+
+    // What its memory holds means its graph, at every moment.
+    ghost meant: { (s : Self) → Means (Self.graph s) (held s) };
 }
