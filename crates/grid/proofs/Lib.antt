@@ -4,3 +4,4 @@ pub mod Wipes
 pub mod Changes
 pub mod Whole
 pub mod Replies
+pub mod Puts

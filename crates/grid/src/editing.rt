@@ -1,13 +1,8 @@
-// How a grid is made and edited. Beside what every store promises, the clauses `rest` say that
-// the words after the rows are as they were.
-ghost use Rattle.std.specs.Prelude.{◌≡◌, ◌*◌, ◌≤◌, false, length, drop, is_ok, Ok};
-ghost use Rattle.graph.specs.Graph.{order_limit, empty};
-ghost use Rattle.model.specs.Model.{bare, unmade};
-ghost use Rattle.model.specs.Table.{reply, reply_on};
-ghost use Rattle.model.specs.declared.call.Call.TheVariants.{Make, Join, Part};
-ghost use Rattle.store.specs.Change.{after_join, after_part};
-ghost use Rattle.grid.specs.Rows.{vertex_words, wiped, lent_words};
-ghost use Rattle.grid.specs.Meaning.{graph_of, capacity_of};
+// How a grid is made and edited.
+ghost use Rattle.std.specs.Prelude.{◌≡◌, ◌*◌, ◌≤◌, true, false, length};
+ghost use Rattle.model.specs.Model.{make_limit};
+ghost use Rattle.grid.specs.Rows.{vertex_words, Rows, grid_rows, wiped, edge_words, lent_words};
+ghost use Rattle.grid.specs.Meaning.{capacity_of};
 
 use crate::Grid;
 use crate::words::{VERTEX_WORDS, set_edge, wipe_rows};
@@ -18,7 +13,7 @@ impl<'a> Grid<'a> {
     // The map of n vertices and no edge, over the first words of the memory: the rows are zeros,
     // and the words after them are as they were. The order is a plain number, as `make` takes it.
     pub fn over(n: u16, memory: &'a mut [u64]) -> Grid<'a>
-        requires { (1 ≤ n) × ((n ≤ order_limit) × (vertex_words * n ≤ length memory.old)) }
+        requires { (1 ≤ n) × ((n ≤ make_limit) × (vertex_words * n ≤ length memory.old)) }
         ensures order { result.n ≡ n }
         ensures words { result.words.now ≡ wiped n memory.old }
     {
@@ -36,6 +31,23 @@ impl<'a> Editable for Grid<'a> {
     // The rows of the vertices are enough.
     ghost lent = { λ memory. lent_words memory.now };
 
+    ghost held = { λ s. s.words.now };
+
+    // The rows are wiped, and the words after them are as they were.
+    ghost fresh = { λ memory n. wiped n memory.now };
+
+    // The edge's two bits are set.
+    ghost with_edge_in = { λ g words u v. edge_words true words u v };
+
+    // They are cleared.
+    ghost without_edge_in = { λ g words u v. edge_words false words u v };
+
+    ghost Means = { Rows };
+
+    ghost few = { λ s. s.small };
+
+    ghost meant = { λ s. grid_rows s.n s.words.now s.room };
+
     // Whether the memory holds the rows of n vertices.
     fn room(n: u16, memory: &&'a mut [u64]) -> Result<(), Refusal> {
         if is_bad_order(n) {
@@ -47,13 +59,8 @@ impl<'a> Editable for Grid<'a> {
         Ok(())
     }
 
-    // A map of n vertices and no edge. Beyond the trait: what becomes of the words.
-    fn make(n: u16, memory: &'a mut [u64]) -> Grid<'a>
-        requires { reply (lent_words memory.old) unmade (Make n) ≡ Ok tt }
-        ensures graph { graph_of result ≡ empty n }
-        ensures most { capacity_of result ≡ (lent_words memory.old).capacity n }
-        ensures words { result.words.now ≡ wiped n memory.old }
-    {
+    // A map of n vertices and no edge.
+    fn make(n: u16, memory: &'a mut [u64]) -> Grid<'a> {
         Grid::over(n, memory)
     }
 
@@ -64,13 +71,7 @@ impl<'a> Editable for Grid<'a> {
     }
 
     // Sets the edge's two bits. There is room for every pair, so none is refused for want of it.
-    fn join(&mut self, u: Vertex, v: Vertex) -> Result<(), Refusal>
-        ensures reply { result ≡ reply_on (bare (graph_of self.old) (capacity_of self.old)) (Join u v) }
-        ensures after { graph_of self.new ≡ after_join result (graph_of self.old) u v }
-        ensures most { capacity_of self.new ≡ capacity_of self.old }
-        ensures unchanged { is_ok result ≡ false → self.new ≡ self.old }
-        ensures rest { drop (vertex_words * self.old.n) self.new.words.now ≡ drop (vertex_words * self.old.n) self.old.words.now }
-    {
+    fn join(&mut self, u: Vertex, v: Vertex) -> Result<(), Refusal> {
         check_ends(self.n, u, v)?;
         if self.has(u, v) {
             return Err(Refusal::IsJoined);
@@ -80,13 +81,7 @@ impl<'a> Editable for Grid<'a> {
     }
 
     // Clears the edge's two bits.
-    fn part(&mut self, u: Vertex, v: Vertex) -> Result<(), Refusal>
-        ensures reply { result ≡ reply_on (bare (graph_of self.old) (capacity_of self.old)) (Part u v) }
-        ensures after { graph_of self.new ≡ after_part result (graph_of self.old) u v }
-        ensures most { capacity_of self.new ≡ capacity_of self.old }
-        ensures unchanged { is_ok result ≡ false → self.new ≡ self.old }
-        ensures rest { drop (vertex_words * self.old.n) self.new.words.now ≡ drop (vertex_words * self.old.n) self.old.words.now }
-    {
+    fn part(&mut self, u: Vertex, v: Vertex) -> Result<(), Refusal> {
         check_ends(self.n, u, v)?;
         if !self.has(u, v) {
             return Err(Refusal::NotJoined);

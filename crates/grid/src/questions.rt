@@ -2,6 +2,7 @@
 // one row of its words on for reading and promises that nothing changed.
 ghost use Rattle.std.specs.Prelude.{◌≡◌, ◌+◌, ◌*◌, ◌<◌, slice_range};
 ghost use Rattle.graph.specs.Graph.{degree, next};
+ghost use Rattle.grid.specs.Rows.{few_vertices};
 ghost use Rattle.grid.specs.Meaning.{graph_of};
 ghost use Rattle.grid.specs.Rows.{vertex_words, row_end};
 ghost use Rattle.rows.specs.Marks.{marked};
@@ -65,7 +66,7 @@ impl<'a> Grid<'a> {
 impl<'a> Map for Grid<'a> {
     ghost graph = { graph_of };
 
-    ghost simple = { λ m. record { some = m.some; small = m.small; symmetric = m.even; irreflexive = m.loose; bounded = m.within } };
+    ghost simple = { λ m. record { some = m.some; small = few_vertices m.n m.small; symmetric = m.even; irreflexive = m.loose; bounded = m.within } };
 
     // The number of vertices.
     fn order(&mut self) -> u16 {

@@ -1,8 +1,8 @@
 // Writes to the words of a whole grid.
-ghost use Rattle.std.specs.Prelude.{◌≡◌, ℕ, ◌+◌, ◌*◌, ◌<◌, ◌≤◌, ◌&&◌, length, drop, if◌then◌else◌, ◌==◌};
+ghost use Rattle.std.specs.Prelude.{◌≡◌, ℕ, ◌+◌, ◌*◌, ◌<◌, ◌≤◌, ◌&&◌, length, if◌then◌else◌, ◌==◌};
 ghost use Rattle.graph.specs.Graph.{same_edge};
-ghost use Rattle.bits.specs.Bits.{has};
-ghost use Rattle.grid.specs.Rows.{vertex_words, vertex_bits, row_end, wiped};
+ghost use Rattle.bits.specs.Bits.{has, with_number};
+ghost use Rattle.grid.specs.Rows.{vertex_words, vertex_bits, row_end, wiped, edge_words};
 
 use model::Vertex;
 
@@ -12,8 +12,8 @@ pub(crate) const VERTEX_WORDS: usize = 4;
 // Sets or clears bit v of u's row.
 fn set_bit(words: &mut [u64], u: Vertex, v: Vertex, on: bool)
     requires { (row_end u ≤ length words.old) × (v < vertex_bits) }
+    ensures words { words.new ≡ with_number words.old (vertex_words * u) v on }
     ensures bits { (a b : ℕ) → b < vertex_bits → has words.new (vertex_words * a) b ≡ (if u == a && v == b then on else has words.old (vertex_words * a) b) }
-    ensures rest { (m : ℕ) → row_end u ≤ m → drop m words.new ≡ drop m words.old }
 {
     let at = VERTEX_WORDS * u as usize;
     bits::set(&mut words[at..at + VERTEX_WORDS], v, on);
@@ -22,8 +22,8 @@ fn set_bit(words: &mut [u64], u: Vertex, v: Vertex, on: bool)
 // Sets or clears the two bits of the edge between u and v.
 pub(crate) fn set_edge(words: &mut [u64], u: Vertex, v: Vertex, on: bool)
     requires { (row_end u ≤ length words.old) × ((row_end v ≤ length words.old) × ((u < vertex_bits) × (v < vertex_bits))) }
+    ensures words { words.new ≡ edge_words on words.old u v }
     ensures bits { (a b : ℕ) → b < vertex_bits → has words.new (vertex_words * a) b ≡ (if same_edge u v a b then on else has words.old (vertex_words * a) b) }
-    ensures rest { (m : ℕ) → row_end u ≤ m → row_end v ≤ m → drop m words.new ≡ drop m words.old }
 {
     set_bit(words, u, v, on);
     set_bit(words, v, u, on);

@@ -1,7 +1,7 @@
 use Rattle.std.proofs.Common.{◌≡◌, ℕ, Bool, cond, ◌&&◌, eqb, ◌∙◌, arith}
 use Rattle.std.proofs.lemmas.Bool.Decides.{nat_tests}
-use Rattle.bits.proofs.Parts.{row_changed, past_row}
-use Rattle.grid.specs.Rows.{vertex_words}
+use Rattle.bits.proofs.Parts.{row_changed}
+use Rattle.grid.proofs.Puts.{row_put}
 use Rattle.grid.proofs.words.set_bit.Goals as goal
 
 -- A bit of one row, told by its two numbers.
@@ -15,6 +15,6 @@ returns c =
     let u = c.args.u in
     let v = c.args.v in
     record {
-      bits = λ a b l. row_changed vertex_words xs ys u (omega arith) (omega (arith, c.set.auto.words)) (λ k x. cond (eqb k v) c.args.on x) (λ k _. c.set.ensures.bits k) a b (omega arith) ∙ one_bit u v a b c.args.on _;
-      rest = past_row vertex_words xs ys u (omega arith) (omega (arith, c.set.auto.words));
+      bits = λ a b l. row_changed 4 xs ys u (omega arith) (omega (arith, c.set.auto.words)) (λ k x. cond (eqb k v) c.args.on x) (λ k _. c.set.ensures.bits k) a b (omega arith) ∙ one_bit u v a b c.args.on _;
+      words = row_put xs ys u c.args.v c.args.on (omega arith) (omega arith) c.set.ensures.words;
     }
