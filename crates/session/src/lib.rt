@@ -31,9 +31,9 @@ pub struct Planner<S> {
 // As a map, a planner is the graph in force. The questions are passed on one by one: no form of
 // the language passes a trait on to a field.
 impl<S: Editable> Map for Planner<S> {
-    ghost graph = { graph_of S.Map.graph S.Editable.most };
+    ghost graph = { graph_of S.graph S.most };
 
-    ghost simple = { λ p. without_simple (S.Map.graph p.pile.map.map.store) (noted p.pile.map.map) (S.Map.simple p.pile.map.map.store) };
+    ghost simple = { λ p. without_simple (S.graph p.pile.map.map.store) (noted p.pile.map.map) (S.simple p.pile.map.map.store) };
 
     fn order(&mut self) -> u16 {
         self.pile.map.order()
@@ -59,8 +59,8 @@ impl<S: Editable> Map for Planner<S> {
 impl<S: Editable> Planner<S> {
     // A planner of a map of n vertices with no edge. `S::room` says when it can be made.
     pub fn make(n: u16, memory: S::Memory) -> Planner<S>
-        requires { reply (S.Editable.lent memory) unmade (Make n) ≡ Ok tt }
-        ensures { model_of S.Map.graph S.Editable.most result ≡ blank n ((S.Editable.lent memory).capacity n) }
+        requires { reply (S.lent memory) unmade (Make n) ≡ Ok tt }
+        ensures { model_of S.graph S.most result ≡ blank n ((S.lent memory).capacity n) }
     {
         Planner {
             pile: Split::over(Line::over(Strike::over(S::make(n, memory)))),
@@ -70,7 +70,7 @@ impl<S: Editable> Planner<S> {
     // A planner of a map of n vertices with no edge, or why there is none. A refused make only looks at
     // the memory, which `room` takes by `&`.
     pub fn open(n: u16, memory: S::Memory) -> Result<Planner<S>, Refusal>
-        ensures { MatchResult result (λ p. (reply (S.Editable.lent memory) unmade (Make n) ≡ Ok tt) × (model_of S.Map.graph S.Editable.most p ≡ blank n ((S.Editable.lent memory).capacity n))) (λ e. reply (S.Editable.lent memory) unmade (Make n) ≡ Err e) }
+        ensures { MatchResult result (λ p. (reply (S.lent memory) unmade (Make n) ≡ Ok tt) × (model_of S.graph S.most p ≡ blank n ((S.lent memory).capacity n))) (λ e. reply (S.lent memory) unmade (Make n) ≡ Err e) }
     {
         S::room(n, &memory)?;
         Ok(Planner::make(n, memory))
@@ -78,8 +78,8 @@ impl<S: Editable> Planner<S> {
 
     // Performs a call: an edit changes the map, a make is out of turn.
     fn act(&mut self, call: Call) -> Result<Answer, Refusal>
-        ensures right { (lent : Lent) → Right lent (made (model_of S.Map.graph S.Editable.most self.old)) call result }
-        ensures after { (lent : Lent) → made (model_of S.Map.graph S.Editable.most self.new) ≡ after lent (made (model_of S.Map.graph S.Editable.most self.old)) call }
+        ensures right { (lent : Lent) → Right lent (made (model_of S.graph S.most self.old)) call result }
+        ensures after { (lent : Lent) → made (model_of S.graph S.most self.new) ≡ after lent (made (model_of S.graph S.most self.old)) call }
         ensures unchanged { is_ok result ≡ false → self.new ≡ self.old }
     {
         match call {
@@ -118,10 +118,10 @@ fn later_make(n: u16) -> Refusal
 // promises: a session that was sound stays sound with this call and what it returned, whatever memory
 // was lent.
 pub fn perform<S: Editable>(planner: &mut Planner<S>, call: Call) -> Result<Answer, Refusal>
-    ensures right { (lent : Lent) → Right lent (made (model_of S.Map.graph S.Editable.most planner.old)) call result }
-    ensures after { (lent : Lent) → made (model_of S.Map.graph S.Editable.most planner.new) ≡ after lent (made (model_of S.Map.graph S.Editable.most planner.old)) call }
+    ensures right { (lent : Lent) → Right lent (made (model_of S.graph S.most planner.old)) call result }
+    ensures after { (lent : Lent) → made (model_of S.graph S.most planner.new) ≡ after lent (made (model_of S.graph S.most planner.old)) call }
     ensures unchanged { is_ok result ≡ false → planner.new ≡ planner.old }
-    ensures law { (lent : Lent) (events : List Event) → Sound events (made (model_of S.Map.graph S.Editable.most planner.old)) → Sound (events ++ (event lent call result ∷ [])) (made (model_of S.Map.graph S.Editable.most planner.new)) }
+    ensures law { (lent : Lent) (events : List Event) → Sound events (made (model_of S.graph S.most planner.old)) → Sound (events ++ (event lent call result ∷ [])) (made (model_of S.graph S.most planner.new)) }
 {
     planner.act(call)
 }

@@ -24,9 +24,9 @@ pub struct Strike<S> {
 
 // As a map, the layer is the graph below without the struck edges.
 impl<S: Editable> Map for Strike<S> {
-    ghost graph = { λ s. without (S.Map.graph s.store) (noted s) };
+    ghost graph = { λ s. without (S.graph s.store) (noted s) };
 
-    ghost simple = { λ s. without_simple (S.Map.graph s.store) (noted s) (S.Map.simple s.store) };
+    ghost simple = { λ s. without_simple (S.graph s.store) (noted s) (S.simple s.store) };
 
     // The number of vertices: striking takes none away.
     fn order(&mut self) -> u16 {
@@ -95,7 +95,7 @@ impl<S> Strike<S> {
 impl<S: Editable> Strike<S> {
     // How many edges the store below takes.
     pub fn capacity(&mut self) -> usize
-        ensures value { result ≡ S.Editable.most self.old.store }
+        ensures value { result ≡ S.most self.old.store }
         ensures same { self.new ≡ self.old }
     {
         self.store.capacity()
@@ -103,7 +103,7 @@ impl<S: Editable> Strike<S> {
 
     // Refuses u and v unless they are two vertices and no edge between them is struck.
     fn check_unstruck(&mut self, u: Vertex, v: Vertex) -> Result<(), Refusal>
-        ensures reply { result ≡ unstruck_reply (S.Map.graph self.old.store).order (noted self.old) u v }
+        ensures reply { result ≡ unstruck_reply (S.graph self.old.store).order (noted self.old) u v }
         ensures same { self.new ≡ self.old }
     {
         check_ends(self.store.order(), u, v)?;
@@ -115,8 +115,8 @@ impl<S: Editable> Strike<S> {
 
     // Lays the edge between u and v, unless it is struck or the store refuses.
     pub fn join(&mut self, u: Vertex, v: Vertex) -> Result<(), Refusal>
-        ensures reply { result ≡ reply_on (kept S.Map.graph S.Editable.most self.old) (Join u v) }
-        ensures after { made (kept S.Map.graph S.Editable.most self.new) ≡ after nothing (made (kept S.Map.graph S.Editable.most self.old)) (Join u v) }
+        ensures reply { result ≡ reply_on (kept S.graph S.most self.old) (Join u v) }
+        ensures after { made (kept S.graph S.most self.new) ≡ after nothing (made (kept S.graph S.most self.old)) (Join u v) }
         ensures unchanged { is_ok result ≡ false → self.new ≡ self.old }
     {
         self.check_unstruck(u, v)?;
@@ -125,8 +125,8 @@ impl<S: Editable> Strike<S> {
 
     // Takes the edge between u and v up, unless it is struck or the store refuses.
     pub fn part(&mut self, u: Vertex, v: Vertex) -> Result<(), Refusal>
-        ensures reply { result ≡ reply_on (kept S.Map.graph S.Editable.most self.old) (Part u v) }
-        ensures after { made (kept S.Map.graph S.Editable.most self.new) ≡ after nothing (made (kept S.Map.graph S.Editable.most self.old)) (Part u v) }
+        ensures reply { result ≡ reply_on (kept S.graph S.most self.old) (Part u v) }
+        ensures after { made (kept S.graph S.most self.new) ≡ after nothing (made (kept S.graph S.most self.old)) (Part u v) }
         ensures unchanged { is_ok result ≡ false → self.new ≡ self.old }
     {
         self.check_unstruck(u, v)?;
@@ -135,8 +135,8 @@ impl<S: Editable> Strike<S> {
 
     // Strikes the edge between u and v out, while fewer than 16 are struck. The store keeps it.
     pub fn strike(&mut self, u: Vertex, v: Vertex) -> Result<(), Refusal>
-        ensures reply { result ≡ reply_on (kept S.Map.graph S.Editable.most self.old) (StrikeCall u v) }
-        ensures after { made (kept S.Map.graph S.Editable.most self.new) ≡ after nothing (made (kept S.Map.graph S.Editable.most self.old)) (StrikeCall u v) }
+        ensures reply { result ≡ reply_on (kept S.graph S.most self.old) (StrikeCall u v) }
+        ensures after { made (kept S.graph S.most self.new) ≡ after nothing (made (kept S.graph S.most self.old)) (StrikeCall u v) }
         ensures unchanged { is_ok result ≡ false → self.new ≡ self.old }
     {
         self.check_unstruck(u, v)?;
@@ -152,8 +152,8 @@ impl<S: Editable> Strike<S> {
 
     // Lifts the strike of the edge between u and v.
     pub fn lift(&mut self, u: Vertex, v: Vertex) -> Result<(), Refusal>
-        ensures reply { result ≡ reply_on (kept S.Map.graph S.Editable.most self.old) (Lift u v) }
-        ensures after { made (kept S.Map.graph S.Editable.most self.new) ≡ after nothing (made (kept S.Map.graph S.Editable.most self.old)) (Lift u v) }
+        ensures reply { result ≡ reply_on (kept S.graph S.most self.old) (Lift u v) }
+        ensures after { made (kept S.graph S.most self.new) ≡ after nothing (made (kept S.graph S.most self.old)) (Lift u v) }
         ensures unchanged { is_ok result ≡ false → self.new ≡ self.old }
     {
         check_ends(self.store.order(), u, v)?;
