@@ -7,7 +7,7 @@ ghost use Rattle.model.specs.Table.{nothing, reply_on};
 ghost use Rattle.model.specs.Law.{after};
 ghost use Rattle.model.specs.declared.call.Call.TheVariants.{Join, Part, Strike as StrikeCall, Lift};
 ghost use Rattle.strike.specs.Struck.{without, without_simple};
-ghost use Rattle.strike.specs.Kept.{noted, kept, unstruck_reply};
+ghost use Rattle.strike.specs.Kept.{noted, kept, held_under, memory_after, unstruck_reply};
 
 mod marks;
 
@@ -117,6 +117,7 @@ impl<S: Editable> Strike<S> {
     pub fn join(&mut self, u: Vertex, v: Vertex) -> Result<(), Refusal>
         ensures reply { result ≡ reply_on (kept S.graph S.most self.old) (Join u v) }
         ensures after { made (kept S.graph S.most self.new) ≡ after nothing (made (kept S.graph S.most self.old)) (Join u v) }
+        ensures held { held_under S.held self.new ≡ memory_after S.with_edge_in S.without_edge_in (kept S.graph S.most self.old) (Join u v) (held_under S.held self.old) }
         ensures unchanged { is_ok result ≡ false → self.new ≡ self.old }
     {
         self.check_unstruck(u, v)?;
@@ -127,6 +128,7 @@ impl<S: Editable> Strike<S> {
     pub fn part(&mut self, u: Vertex, v: Vertex) -> Result<(), Refusal>
         ensures reply { result ≡ reply_on (kept S.graph S.most self.old) (Part u v) }
         ensures after { made (kept S.graph S.most self.new) ≡ after nothing (made (kept S.graph S.most self.old)) (Part u v) }
+        ensures held { held_under S.held self.new ≡ memory_after S.with_edge_in S.without_edge_in (kept S.graph S.most self.old) (Part u v) (held_under S.held self.old) }
         ensures unchanged { is_ok result ≡ false → self.new ≡ self.old }
     {
         self.check_unstruck(u, v)?;
@@ -137,6 +139,7 @@ impl<S: Editable> Strike<S> {
     pub fn strike(&mut self, u: Vertex, v: Vertex) -> Result<(), Refusal>
         ensures reply { result ≡ reply_on (kept S.graph S.most self.old) (StrikeCall u v) }
         ensures after { made (kept S.graph S.most self.new) ≡ after nothing (made (kept S.graph S.most self.old)) (StrikeCall u v) }
+        ensures held { held_under S.held self.new ≡ memory_after S.with_edge_in S.without_edge_in (kept S.graph S.most self.old) (StrikeCall u v) (held_under S.held self.old) }
         ensures unchanged { is_ok result ≡ false → self.new ≡ self.old }
     {
         self.check_unstruck(u, v)?;
@@ -154,6 +157,7 @@ impl<S: Editable> Strike<S> {
     pub fn lift(&mut self, u: Vertex, v: Vertex) -> Result<(), Refusal>
         ensures reply { result ≡ reply_on (kept S.graph S.most self.old) (Lift u v) }
         ensures after { made (kept S.graph S.most self.new) ≡ after nothing (made (kept S.graph S.most self.old)) (Lift u v) }
+        ensures held { held_under S.held self.new ≡ memory_after S.with_edge_in S.without_edge_in (kept S.graph S.most self.old) (Lift u v) (held_under S.held self.old) }
         ensures unchanged { is_ok result ≡ false → self.new ≡ self.old }
     {
         check_ends(self.store.order(), u, v)?;
