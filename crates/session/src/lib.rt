@@ -2,7 +2,7 @@
 // call is answered as the model says, and the graph in force is the model's.
 #![tactic(auto)]
 
-ghost use Rattle.std.specs.Prelude.{◌≡◌, false, List, [], ◌∷◌, ◌++◌, is_ok, if◌then◌else◌, Ok, Err, MatchResult};
+ghost use Rattle.std.specs.Prelude.{◌≡◌, false, List, [], ◌∷◌, ◌++◌, is_ok, if◌then◌else◌, Ok, Err, IfOk, IfErr};
 ghost use Rattle.model.specs.Model.{Lent, unmade, made, blank};
 ghost use Rattle.model.specs.Table.{reply, bad_order};
 ghost use Rattle.model.specs.Law.{Right, after, Event, event, Sound};
@@ -10,12 +10,14 @@ ghost use Rattle.model.specs.declared.call.Call.TheVariants.{Make};
 ghost use Rattle.model.specs.declared.refusal.Refusal.TheVariants.{BadOrder, OutOfTurn};
 ghost use Rattle.strike.specs.Kept.{noted};
 ghost use Rattle.strike.specs.Struck.{without_simple};
-ghost use Rattle.session.specs.Kept.{model_of, graph_of};
+ghost use Rattle.session.specs.Kept.{model_of, graph_of, held_of};
 
 mod pairs;
+mod refused;
 
 use model::{Answer, Call, Refusal, Vertex, is_bad_order};
 use plan::{Line, Split};
+pub use refused::Refused;
 use rows::marks::Marks;
 use store::{Editable, Map};
 use strike::Strike;
@@ -60,20 +62,26 @@ impl<S: Editable> Planner<S> {
     // A planner of a map of n vertices with no edge. `S::room` says when it can be made.
     pub fn make(n: u16, memory: S::Memory) -> Planner<S>
         requires { reply (S.lent memory) unmade (Make n) ≡ Ok tt }
-        ensures { model_of S.graph S.most result ≡ blank n ((S.lent memory).capacity n) }
+        ensures model { model_of S.graph S.most result ≡ blank n ((S.lent memory).capacity n) }
+        ensures held { held_of S.held result ≡ S.fresh memory n }
     {
         Planner {
             pile: Split::over(Line::over(Strike::over(S::make(n, memory)))),
         }
     }
 
-    // A planner of a map of n vertices with no edge, or why there is none. A refused make only looks at
-    // the memory, which `room` takes by `&`.
-    pub fn open(n: u16, memory: S::Memory) -> Result<Planner<S>, Refusal>
-        ensures { MatchResult result (λ p. (reply (S.lent memory) unmade (Make n) ≡ Ok tt) × (model_of S.graph S.most p ≡ blank n ((S.lent memory).capacity n))) (λ e. reply (S.lent memory) unmade (Make n) ≡ Err e) }
+    // A planner of a map of n vertices with no edge, or why there is none, with the memory as it was lent.
+    pub fn open(n: u16, memory: S::Memory) -> Result<Planner<S>, Refused<S::Memory>>
+        ensures accepted { IfOk result (λ p. reply (S.lent memory) unmade (Make n) ≡ Ok tt) }
+        ensures model { IfOk result (λ p. model_of S.graph S.most p ≡ blank n ((S.lent memory).capacity n)) }
+        ensures held { IfOk result (λ p. held_of S.held p ≡ S.fresh memory n) }
+        ensures refused { IfErr result (λ e. reply (S.lent memory) unmade (Make n) ≡ Err e.refusal) }
+        ensures back { IfErr result (λ e. e.memory ≡ memory) }
     {
-        S::room(n, &memory)?;
-        Ok(Planner::make(n, memory))
+        match S::room(n, &memory) {
+            Ok(()) => Ok(Planner::make(n, memory)),
+            Err(refusal) => Err(Refused { refusal, memory }),
+        }
     }
 
     // Performs a call: an edit changes the map, a make is out of turn.
