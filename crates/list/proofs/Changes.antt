@@ -4,7 +4,7 @@ use Rattle.std.proofs.lemmas.Bool.Decides.{Decides-and, Decides-ltb, Decides-eqb
 use Rattle.graph.specs.Graph.{edges, with_edge, without_edge}
 use Rattle.model.specs.Model.{make_limit}
 use Rattle.graph.proofs.Edges.{one_edge_more_lem, one_edge_less_lem}
-use Rattle.list.specs.Cells.{code, held, Rising, listing, listing_simple, place, inserted_cells, removed_cells}
+use Rattle.list.specs.Cells.{code, holds, Rising, listing, listing_simple, place, inserted_cells, removed_cells}
 use Rattle.list.specs.Edges.{Listed}
 use Rattle.list.specs.Meaning.{codes_of, laid_cells, taken_cells}
 use Rattle.list.specs.declared.List.{List as Store}
@@ -43,8 +43,8 @@ module _ (n k : ℕ) (xs : List ℕ) (u v d at : ℕ) (kept : Kept n k xs) (s : 
   standing on =
       let b = ltb at k && eqb (get_or xs at 0) d in
       let decides : Decides b ((at < k) × (get_or xs at 0 ≡ d)) = Decides-and (ltb at k) (eqb (get_or xs at 0) d) (Decides-ltb at k) (Decides-eqb (get_or xs at 0) d) in
-      let held_here : b ≡ held k xs d = held_at k xs d at kept.rising s.below s.above b decides in
-      decides.0 (held_here ∙ ap (held k xs) s.number ∙ listing_inside n k xs u v s.first s.second s.differ ∙ on)
+      let held_here : b ≡ holds k xs d = held_at k xs d at kept.rising s.below s.above b decides in
+      decides.0 (held_here ∙ ap (holds k xs) s.number ∙ listing_inside n k xs u v s.first s.second s.differ ∙ on)
 
   -- The cells after an insertion there are those after a join.
   pub inserted_value : (ys : List ℕ) → ys ≡ inserted_cells xs k at d → ys ≡ laid_cells (listing n k xs) xs u v
@@ -75,7 +75,7 @@ module _ (n k : ℕ) (xs : List ℕ) (u v d at : ℕ) (kept : Kept n k xs) (s : 
   -- An insertion of what was not held leaves a list that keeps the facts.
   pub inserted_kept : (ys : List ℕ) → k < length xs → (listing n k xs).joined u v ≡ false → ys ≡ inserted_cells xs k at d → Kept n (k + 1) ys
   inserted_kept ys room apart e =
-      let absent : held k xs d ≡ false = ap (held k xs) s.number ∙ listing_inside n k xs u v s.first s.second s.differ ∙ apart in
+      let absent : holds k xs d ≡ false = ap (holds k xs) s.number ∙ listing_inside n k xs u v s.first s.second s.differ ∙ apart in
       let more = (one_edge_more_lem (listing n k xs) u v (listing_simple n k xs kept.some kept.small) s.first s.second s.differ apart).1 in
       let e' = inserted_in ys room e in
       let size : k + 1 ≤ length ys = omega (arith, inserted_size ys room e) in

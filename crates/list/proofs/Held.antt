@@ -4,32 +4,32 @@ use Rattle.std.proofs.lemmas.Bool.Decides.{Decides-below_or, Decides-eqb, Decide
 use Rattle.std.proofs.lemmas.Bool.{cases_Bool, cases_eq, cases_lt, lt-ltb, le-ltb, true≢false}
 use Rattle.graph.specs.Graph.{count}
 use Rattle.graph.proofs.Counts.{count_short}
-use Rattle.list.specs.Cells.{code, held, Rising, place}
+use Rattle.list.specs.Cells.{code, holds, Rising, place}
 use Rattle.list.proofs.Shifts.{Inserted, Removed}
 
 -- One of the first k cells holds c.
-abbrev Holds : ℕ → List ℕ → ℕ → Type 0
-Holds k xs c = (i : ℕ) × (i < k) × (get_or xs i 0 ≡ c)
+abbrev Somewhere : ℕ → List ℕ → ℕ → Type 0
+Somewhere k xs c = (i : ℕ) × (i < k) × (get_or xs i 0 ≡ c)
 
 -- The test of what is held decides that one of the cells holds it.
-held_decides : (k : ℕ) (xs : List ℕ) (c : ℕ) → Decides (held k xs c) (Holds k xs c)
-unfolding held
+held_decides : (k : ℕ) (xs : List ℕ) (c : ℕ) → Decides (holds k xs c) (Somewhere k xs c)
+unfolding holds
 held_decides k xs c =
-    Decides-below_or (λ i. eqb (get_or xs i 0) c) (λ i. get_or xs i 0 ≡ c) (λ i. held i xs c) (λ i. Decides-eqb (get_or xs i 0) c) refl (λ _. refl) k
+    Decides-below_or (λ i. eqb (get_or xs i 0) c) (λ i. get_or xs i 0 ≡ c) (λ i. holds i xs c) (λ i. Decides-eqb (get_or xs i 0) c) refl (λ _. refl) k
 
 -- What one of the cells holds is held, and what none holds is not.
-pub held_where : (k : ℕ) (xs : List ℕ) (c i : ℕ) → i < k → get_or xs i 0 ≡ c → held k xs c ≡ true
+pub held_where : (k : ℕ) (xs : List ℕ) (c i : ℕ) → i < k → get_or xs i 0 ≡ c → holds k xs c ≡ true
 held_where k xs c i l e = (held_decides k xs c).1 (i, l, e)
 
-pub held_nowhere : (k : ℕ) (xs : List ℕ) (c : ℕ) → ((i : ℕ) → i < k → get_or xs i 0 ≡ c → ⊥) → held k xs c ≡ false
+pub held_nowhere : (k : ℕ) (xs : List ℕ) (c : ℕ) → ((i : ℕ) → i < k → get_or xs i 0 ≡ c → ⊥) → holds k xs c ≡ false
 held_nowhere k xs c none =
     ⊎_elim
     (λ on. let h = (held_decides k xs c).0 on in absurd (none h.0 h.1 h.2))
     (λ off. off)
-    (cases_Bool (held k xs c))
+    (cases_Bool (holds k xs c))
 
 -- What is held stands in one of the cells.
-pub held_index : (k : ℕ) (xs : List ℕ) (c : ℕ) → held k xs c ≡ true → (i : ℕ) × (i < k) × (get_or xs i 0 ≡ c)
+pub held_index : (k : ℕ) (xs : List ℕ) (c : ℕ) → holds k xs c ≡ true → (i : ℕ) × (i < k) × (get_or xs i 0 ≡ c)
 held_index k xs c on = (held_decides k xs c).0 on
 
 -- Where all pass, all are counted.
@@ -48,11 +48,11 @@ place_is k xs c r le below above =
 
 -- Whether c is held shows at its place.
 pub held_at : (k : ℕ) (xs : List ℕ) (c r : ℕ) → Rising k xs → ((i : ℕ) → i < r → get_or xs i 0 < c) → ((i : ℕ) → r ≤ i → i < k → c ≤ get_or xs i 0)
-    → (b : Bool) → Decides b ((r < k) × (get_or xs r 0 ≡ c)) → b ≡ held k xs c
+    → (b : Bool) → Decides b ((r < k) × (get_or xs r 0 ≡ c)) → b ≡ holds k xs c
 held_at k xs c r up below above b d =
-    same_from_decides b (held k xs c) (Decides-like b (λ p. (r, p.0, p.1)) there d) (held_decides k xs c)
+    same_from_decides b (holds k xs c) (Decides-like b (λ p. (r, p.0, p.1)) there d) (held_decides k xs c)
   where
-    there : Holds k xs c → (r < k) × (get_or xs r 0 ≡ c)
+    there : Somewhere k xs c → (r < k) × (get_or xs r 0 ≡ c)
     there h =
         ⊎_elim
         (λ l. let z : ⊥ = omega (arith, below h.0 l, h.2) in absurd z)
@@ -64,28 +64,28 @@ held_at k xs c r up below above b d =
         (cases_lt h.0 r)
 
 -- Where c is not held, the cells from its place on are above it.
-pub above_place : (k : ℕ) (xs : List ℕ) (c r : ℕ) → ((i : ℕ) → r ≤ i → i < k → c ≤ get_or xs i 0) → held k xs c ≡ false → (i : ℕ) → r ≤ i → i < k → c < get_or xs i 0
+pub above_place : (k : ℕ) (xs : List ℕ) (c r : ℕ) → ((i : ℕ) → r ≤ i → i < k → c ≤ get_or xs i 0) → holds k xs c ≡ false → (i : ℕ) → r ≤ i → i < k → c < get_or xs i 0
 above_place k xs c r above off i l m =
     ⊎_elim
-    (λ e. let on : held k xs c ≡ true = (held_decides k xs c).1 (i, m, e) in
+    (λ e. let on : holds k xs c ≡ true = (held_decides k xs c).1 (i, m, e) in
     let z : ⊥ = true≢false (sym on ∙ off) in absurd z)
     (λ ne. omega (arith, above i l m, ne))
     (cases_eq (get_or xs i 0) c)
 
 -- What is held after an insertion.
-pub held_inserted : (k : ℕ) (xs ys : List ℕ) (at c d : ℕ) → at ≤ k → Inserted xs ys k at c → held (k + 1) ys d ≡ (held k xs d || eqb c d)
+pub held_inserted : (k : ℕ) (xs ys : List ℕ) (at c d : ℕ) → at ≤ k → Inserted xs ys k at c → holds (k + 1) ys d ≡ (holds k xs d || eqb c d)
 held_inserted k xs ys at c d le e =
-    same_from_decides (held (k + 1) ys d) (held k xs d || eqb c d) (held_decides (k + 1) ys d)
-    (Decides-like (held k xs d || eqb c d) there back (Decides-or (held k xs d) (eqb c d) (held_decides k xs d) (Decides-eqb c d)))
+    same_from_decides (holds (k + 1) ys d) (holds k xs d || eqb c d) (held_decides (k + 1) ys d)
+    (Decides-like (holds k xs d || eqb c d) there back (Decides-or (holds k xs d) (eqb c d) (held_decides k xs d) (Decides-eqb c d)))
   where
-    there : Holds k xs d ⊎ (c ≡ d) → Holds (k + 1) ys d
+    there : Somewhere k xs d ⊎ (c ≡ d) → Somewhere (k + 1) ys d
     there s =
         ⊎_elim
         (λ h. ⊎_elim (λ l. (h.0, omega (arith, h.1), e.before h.0 l ∙ h.2)) (λ l. (h.0 + 1, omega (arith, h.1), e.after h.0 l h.1 ∙ h.2)) (cases_lt h.0 at))
         (λ q. (at, omega arith, e.here ∙ q))
         s
 
-    back : Holds (k + 1) ys d → Holds k xs d ⊎ (c ≡ d)
+    back : Somewhere (k + 1) ys d → Somewhere k xs d ⊎ (c ≡ d)
     back h =
         ⊎_elim
         (λ l. inl (h.0, omega (arith, h.1), sym (e.before h.0 l) ∙ h.2))
@@ -97,12 +97,12 @@ held_inserted k xs ys at c d le e =
         (cases_lt h.0 at)
 
 -- What is held after a removal: all but the number taken out, which stood there alone.
-pub held_removed : (k : ℕ) (xs ys : List ℕ) (at c d : ℕ) → Rising k xs → at < k → get_or xs at 0 ≡ c → Removed xs ys k at → held (k - 1) ys d ≡ (held k xs d && not (eqb c d))
+pub held_removed : (k : ℕ) (xs ys : List ℕ) (at c d : ℕ) → Rising k xs → at < k → get_or xs at 0 ≡ c → Removed xs ys k at → holds (k - 1) ys d ≡ (holds k xs d && not (eqb c d))
 held_removed k xs ys at c d up l stood e =
-    same_from_decides (held (k - 1) ys d) (held k xs d && not (eqb c d)) (held_decides (k - 1) ys d)
-    (Decides-like (held k xs d && not (eqb c d)) there back (Decides-and (held k xs d) (not (eqb c d)) (held_decides k xs d) (Decides-not (eqb c d) (Decides-eqb c d))))
+    same_from_decides (holds (k - 1) ys d) (holds k xs d && not (eqb c d)) (held_decides (k - 1) ys d)
+    (Decides-like (holds k xs d && not (eqb c d)) there back (Decides-and (holds k xs d) (not (eqb c d)) (held_decides k xs d) (Decides-not (eqb c d) (Decides-eqb c d))))
   where
-    there : Holds k xs d × (c ≡ d → ⊥) → Holds (k - 1) ys d
+    there : Somewhere k xs d × (c ≡ d → ⊥) → Somewhere (k - 1) ys d
     there p =
         let h = p.0 in
         ⊎_elim
@@ -114,7 +114,7 @@ held_removed k xs ys at c d up l stood e =
         (cases_eq h.0 at))
         (cases_lt h.0 at)
 
-    back : Holds (k - 1) ys d → Holds k xs d × (c ≡ d → ⊥)
+    back : Somewhere (k - 1) ys d → Somewhere k xs d × (c ≡ d → ⊥)
     back h =
         ⊎_elim
         (λ m. let f : get_or xs h.0 0 ≡ d = sym (e.before h.0 m) ∙ h.2 in

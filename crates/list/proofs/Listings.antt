@@ -5,17 +5,17 @@ use Rattle.std.proofs.lemmas.Bool.{cases_lt, lt-ltb, ne_eqb, and_right}
 use Rattle.graph.specs.Graph.{edges, same_edge, empty, with_edge, without_edge}
 use Rattle.model.specs.Model.{make_limit}
 use Rattle.graph.proofs.Edges.{same_graph, edges_none}
-use Rattle.list.specs.Cells.{code, held, Rising, listing}
+use Rattle.list.specs.Cells.{code, holds, Rising, listing}
 use Rattle.list.proofs.Shifts.{Inserted, Removed}
 use Rattle.list.proofs.Held.{held_inserted, held_removed}
 
 -- Two different vertices are joined where their number is held.
-pub listing_inside : (n k : ℕ) (xs : List ℕ) (u v : ℕ) → u < n → v < n → (u ≡ v → ⊥) → held k xs (code u v) ≡ (listing n k xs).joined u v
+pub listing_inside : (n k : ℕ) (xs : List ℕ) (u v : ℕ) → u < n → v < n → (u ≡ v → ⊥) → holds k xs (code u v) ≡ (listing n k xs).joined u v
 listing_inside n k xs u v hu hv ne = rw (lt-ltb u n hu, lt-ltb v n hv, ne_eqb u v ne)
 
 -- With no cell in use there is no edge.
 pub listing_none : (n : ℕ) (xs : List ℕ) → listing n 0 xs ≡ empty n
-unfolding held
+unfolding holds
 listing_none n xs = same_graph (listing n 0 xs) (empty n) refl (λ u v. and_right ((ltb u n && ltb v n) && not (eqb u v)) false refl)
 
 -- So the number of edges is 0.
@@ -58,13 +58,13 @@ pub listing_inserted : (n k : ℕ) (xs ys : List ℕ) (at u v : ℕ) → n ≤ m
     → Inserted xs ys k at (code u v) → listing n (k + 1) ys ≡ with_edge (listing n k xs) u v
 listing_inserted n k xs ys at u v small hu hv ne le e =
     same_graph (listing n (k + 1) ys) (with_edge (listing n k xs) u v) refl
-    (λ a b. guarded n u v a b (held (k + 1) ys) (held k xs) (λ x y. x || y) small hu hv (λ d. held_inserted k xs ys at (code u v) d le e)
-    ∙ put_here n u v a b (held k xs (code a b)) hu hv ne)
+    (λ a b. guarded n u v a b (holds (k + 1) ys) (holds k xs) (λ x y. x || y) small hu hv (λ d. held_inserted k xs ys at (code u v) d le e)
+    ∙ put_here n u v a b (holds k xs (code a b)) hu hv ne)
 
 -- The number of an edge taken out is that edge taken up.
 pub listing_removed : (n k : ℕ) (xs ys : List ℕ) (at u v : ℕ) → n ≤ make_limit → u < n → v < n → Rising k xs → at < k → get_or xs at 0 ≡ code u v
     → Removed xs ys k at → listing n (k - 1) ys ≡ without_edge (listing n k xs) u v
 listing_removed n k xs ys at u v small hu hv up l stood e =
     same_graph (listing n (k - 1) ys) (without_edge (listing n k xs) u v) refl
-    (λ a b. guarded n u v a b (held (k - 1) ys) (held k xs) (λ x y. x && not y) small hu hv (λ d. held_removed k xs ys at (code u v) d up l stood e)
-    ∙ take_here n u v a b (held k xs (code a b)))
+    (λ a b. guarded n u v a b (holds (k - 1) ys) (holds k xs) (λ x y. x && not y) small hu hv (λ d. held_removed k xs ys at (code u v) d up l stood e)
+    ∙ take_here n u v a b (holds k xs (code a b)))

@@ -5,7 +5,7 @@ use Rattle.std.specs.Ordering.{nat_cmp}
 use Rattle.std.proofs.lemmas.Bool.{ltb-true, ltb-false, cases_eq, cases_lt}
 use Rattle.std.proofs.lemmas.List.{places}
 use Rattle.std.proofs.lemmas.List.Sorted.{searched, IsNonDecreasingBy-from_default, IsPartitionedBy-ltb}
-use Rattle.list.specs.Cells.{held, Rising}
+use Rattle.list.specs.Cells.{holds, Rising}
 use Rattle.list.proofs.Held.{held_where, held_nowhere}
 
 -- The first k of the cells xs, which ascend, as a list of their own.
@@ -38,7 +38,7 @@ module _ (k : ℕ) (xs used : List ℕ) (e : used ≡ take k xs) (fits : k ≤ l
   from_point c r point i le l = omega (arith, ltb-false _ c (point.1 i 0 le (omega (arith, used_size))), used_at i l)
 
   -- A binary search finds what is held.
-  pub finds : (c : ℕ) (r : Result ℕ ℕ) → IsBinarySearchResult (λ y. nat_cmp y c) used r → is_ok r ≡ held k xs c
+  pub finds : (c : ℕ) (r : Result ℕ ℕ) → IsBinarySearchResult (λ y. nat_cmp y c) used r → is_ok r ≡ holds k xs c
   finds c (Ok i) h =
       let at = searched used c (Ok i) h level in
       let l : i < k = omega (arith, at.0, used_size) in

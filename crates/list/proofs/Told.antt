@@ -5,7 +5,7 @@ use Rattle.std.proofs.lemmas.List.{places}
 use Rattle.std.proofs.lemmas.List.Elements.{All-get_or, filter_passes}
 use Rattle.std.proofs.lemmas.Bool.{cases_Bool, cases_eq, and_parts, lt-ltb, ltb-true, ne_eqb, true≢false}
 use Rattle.graph.specs.Graph.{edges}
-use Rattle.list.specs.Cells.{code, held, Rising, listing}
+use Rattle.list.specs.Cells.{code, holds, Rising, listing}
 use Rattle.list.specs.Edges.{is_edge_code, edge_codes, Listed}
 use Rattle.list.proofs.Held.{Coded, held_where, held_index}
 
@@ -85,14 +85,14 @@ module _ (n k : ℕ) (xs : List ℕ) (fits : k ≤ length xs) (up : Rising k xs)
   -- What stands in a cell is the number of an edge.
   passes : (c i : ℕ) → i < k → get_or xs i 0 ≡ c → c / 256 < c % 256 → c % 256 < n → is_edge_code (listing n k xs) c ≡ true
   passes c i l e low high =
-      let on : held k xs (code (c / 256) (c % 256)) ≡ true = held_where k xs (code (c / 256) (c % 256)) i l (e ∙ sym (code_parts c low)) in
+      let on : holds k xs (code (c / 256) (c % 256)) ≡ true = held_where k xs (code (c / 256) (c % 256)) i l (e ∙ sym (code_parts c low)) in
       rw (lt-ltb (c / 256) (c % 256) low, lt-ltb (c / 256) n (omega arith), lt-ltb (c % 256) n high, ne_eqb (c / 256) (c % 256) (λ q. omega (arith, q)), on)
 
   -- The number of an edge stands in a cell.
   stands : (c : ℕ) → is_edge_code (listing n k xs) c ≡ true → (i : ℕ) × (i < k) × (get_or xs i 0 ≡ c)
   stands c on =
       let p = and_parts (ltb (c / 256) (c % 256)) ((listing n k xs).joined (c / 256) (c % 256)) on in
-      let q = and_parts ((ltb (c / 256) n && ltb (c % 256) n) && not (eqb (c / 256) (c % 256))) (held k xs (code (c / 256) (c % 256))) p.1 in
+      let q = and_parts ((ltb (c / 256) n && ltb (c % 256) n) && not (eqb (c / 256) (c % 256))) (holds k xs (code (c / 256) (c % 256))) p.1 in
       let f = held_index k xs (code (c / 256) (c % 256)) q.1 in
       (f.0, f.1, f.2 ∙ code_parts c (ltb-true (c / 256) (c % 256) p.0))
 
@@ -124,6 +124,6 @@ coded_of n k xs fits tally told i l =
     let here : get_or (take k xs) i 0 ≡ c = grind (arith, places) in
     let on : is_edge_code g c ≡ true = rw here at (All-get_or (λ (x : ℕ). is_edge_code g x ≡ true) (take k xs) i 0 (grind (arith, places)) all) in
     let p = and_parts (ltb (c / 256) (c % 256)) (g.joined (c / 256) (c % 256)) on in
-    let q = and_parts ((ltb (c / 256) n && ltb (c % 256) n) && not (eqb (c / 256) (c % 256))) (held k xs (code (c / 256) (c % 256))) p.1 in
+    let q = and_parts ((ltb (c / 256) n && ltb (c % 256) n) && not (eqb (c / 256) (c % 256))) (holds k xs (code (c / 256) (c % 256))) p.1 in
     let r = and_parts (ltb (c / 256) n && ltb (c % 256) n) (not (eqb (c / 256) (c % 256))) q.0 in
     (ltb-true (c / 256) (c % 256) p.0, ltb-true (c % 256) n (and_parts (ltb (c / 256) n) (ltb (c % 256) n) r.0).1)

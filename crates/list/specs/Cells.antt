@@ -1,7 +1,7 @@
 -- A map as a list of cells: each edge is one number in a cell, and the cells in use ascend.
 --
 --   code, free                       the number of an edge; what a cell holds that was just freed
---   held, Rising                     whether one of the first k cells holds c; those cells ascend
+--   holds, Rising                    whether one of the first k cells holds c; those cells ascend
 --   listing, listing_simple          the graph that the first k cells mean; it is simple
 --   place                            where c belongs among the first k cells
 --   inserted_cells, removed_cells    the cells after a number is put in, and after one is taken out
@@ -22,9 +22,9 @@ abbrev pub free : ℕ
 free = 65535
 
 -- Whether one of the first k cells holds c.
-unfoldable pub held : ℕ → List ℕ → ℕ → Bool
-held zero xs c = false
-held (suc k) xs c = slice_index xs k == c || held k xs c
+unfoldable pub holds : ℕ → List ℕ → ℕ → Bool
+holds zero xs c = false
+holds (suc k) xs c = slice_index xs k == c || holds k xs c
 
 -- The first k cells ascend.
 abbrev pub Rising : ℕ → List ℕ → Type 0
@@ -33,7 +33,7 @@ Rising k xs = (i j : ℕ) → i < j → j < k → slice_index xs i < slice_index
 -- The graph of n vertices that the first k cells mean: u and v are joined if they are two
 -- different vertices and one of those cells holds their number.
 abbrev pub listing : ℕ → ℕ → List ℕ → Graph
-listing n k xs = record { order = n; joined = λ u v. ((nat_lt u n && nat_lt v n) && not (u == v)) && held k xs (code u v) }
+listing n k xs = record { order = n; joined = λ u v. ((nat_lt u n && nat_lt v n) && not (u == v)) && holds k xs (code u v) }
 
 -- Where c belongs among the first k cells: as many of them are below c.
 abbrev pub place : ℕ → List ℕ → ℕ → ℕ
@@ -72,7 +72,7 @@ listing_simple n k xs some small = record {
   symmetric = λ u v.
       ap₂ (λ (x y : Bool). x && y)
       (ap₂ (λ (x y : Bool). x && not y) (and_swap (nat_lt u n) (nat_lt v n)) (eqb_swap u v))
-      (ap (held k xs) (code_swap u v));
+      (ap (holds k xs) (code_swap u v));
   irreflexive = λ u. and_left _ _ (and_right (nat_lt u n && nat_lt u n) _ (not_from_true _ (eq-eqb u u refl)));
   bounded = λ u v h.
       let inside = and_parts _ _ (and_parts _ _ (and_parts _ _ h).0).0 in

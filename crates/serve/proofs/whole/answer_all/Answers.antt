@@ -12,5 +12,5 @@ returns g c =
     let opened = rw c.in-Some.is at c.in_ok-order.ensures in
     let none = rests_all lent input c.of-lines.result c.of-lines.ensures.none c.of-lines.ensures.all in
     let start = subst (λ (w : List ℕ). Rests lent input unmade c.of-lines.result w) (sym c.requires) none in
-    let stands = subst (λ (m : Model). Rests lent input (made m) c.await_make.new.lines (vec_items c.await_make.new.out)) (sym c.make-planner.ensures) (opened.1 input start) in
+    let stands = subst (λ (m : Model). Rests lent input (made m) c.await_make.new.lines (vec_items c.await_make.new.out)) (sym c.make-planner.ensures.model) (opened.1 input start) in
     IfOk-weaker c.play.result _ _ (λ _ played. played lent input stands) c.play.ensures
