@@ -16,7 +16,7 @@ use Rattle.std.proofs.Math.Nat.{le_trans}
 use Rattle.std.proofs.lemmas.Bool.{lt-ltb}
 use Rattle.graph.specs.Graph.{Graph, order_limit, count}
 use Rattle.bits.specs.Bits.{bit, has, with_number}
-use Rattle.model.specs.Model.{Lent, make_limit}
+use Rattle.model.specs.Model.{Room, make_limit}
 
 abbrev pub vertex_words : ℕ
 vertex_words = 4
@@ -54,7 +54,7 @@ abbrev pub pairs : ℕ → ℕ
 pairs n = n * (n - 1) / 2
 
 -- The rows of the vertices are enough, and whatever is beyond them, every pair can be joined.
-abbrev pub lent_words : List ℕ → Lent
+abbrev pub lent_words : List ℕ → Room
 lent_words words = record { enough = λ n. nat_le (vertex_words * n) (length words); capacity = pairs }
 
 -- A make of n vertices, and an edge between two of them set or cleared, change no word past the rows.

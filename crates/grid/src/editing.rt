@@ -29,7 +29,7 @@ impl<'a> Editable for Grid<'a> {
     ghost most = { capacity_of };
 
     // The rows of the vertices are enough.
-    ghost lent = { λ memory. lent_words memory.now };
+    ghost room_in = { λ memory. lent_words memory.now };
 
     ghost held = { λ s. s.words.now };
 

@@ -5,7 +5,7 @@
 --   laid_cells, taken_cells            the cells after an edge is laid, and after one is taken up
 use Rattle.std.specs.Prelude.{ℕ, true, List, length}
 use Rattle.graph.specs.Graph.{Graph, edges}
-use Rattle.model.specs.Model.{Lent}
+use Rattle.model.specs.Model.{Room}
 use Rattle.list.specs.Cells.{code, listing, place, inserted_cells, removed_cells}
 use Rattle.list.specs.declared.List.{List as Store}
 
@@ -22,7 +22,7 @@ abbrev pub capacity_of : Store → ℕ
 capacity_of s = length (codes_of s)
 
 -- Any number of cells is enough for a map of any order.
-abbrev pub lent_cells : List ℕ → Lent
+abbrev pub lent_cells : List ℕ → Room
 lent_cells xs = record { enough = λ n. true; capacity = λ n. length xs }
 
 -- Cells under a graph use as many as it has edges. An edge laid: its number goes in where it belongs.

@@ -13,7 +13,7 @@ impl<'a> Editable for List<'a> {
     ghost most = { capacity_of };
 
     // Any number of cells is enough.
-    ghost lent = { λ memory. lent_cells memory.now };
+    ghost room_in = { λ memory. lent_cells memory.now };
 
     ghost held = { codes_of };
 

@@ -1,5 +1,8 @@
 -- What a reply by the table says.
-use Rattle.std.proofs.Common.{◌≡◌, ℕ, ◌<◌, ◌≤◌, Bool, true, false, cond, not, ◌&&◌, ltb, leb, ◌⊎◌, List, [], ◌∷◌, Ok, Err, sym, refl, ap, ◌∙◌, subst, inl, inr, ⊎_elim, arith}
+use native.Mathlib.Numerals.{unary_clauses}
+use Rattle.std.proofs.Common.{◌≡◌, ℕ, zero, suc, ◌<◌, ◌≤◌, Bool, true, false, cond, not, ◌&&◌, ltb, leb, ◌⊎◌, List, [], ◌∷◌, map, Ok, Err, sym, refl, ap, ◌∙◌, subst, inl, inr, ⊎_elim, arith}
+use Rattle.std.specs.List.Sorted.{IsStrictlyIncreasing}
+use Rattle.std.proofs.lemmas.List.Elements.{All-nil, All-cons}
 use Rattle.std.proofs.lemmas.Bool.{cases_Bool, and_parts, leb-true, ltb-true, leb-false, eqb-false, lt-ltb, ne_eqb, lt-leb, not-false}
 use Rattle.graph.specs.Graph.{edges}
 use Rattle.model.specs.declared.call.Call.TheVariants.{Make, Join, Part}
@@ -8,7 +11,7 @@ use Rattle.model.specs.declared.refusal.Refusal.TheVariants.{BadOrder, ShortMemo
 use Rattle.model.specs.Numbers.{refusal_number}
 use Rattle.model.specs.Model.{Lent, bare, unmade, made, make_limit}
 use Rattle.model.specs.Table.{Reply, nothing, fits, checking_order, first_fitting, reply, reply_on}
-use Rattle.model.specs.Meaning.{SmallestFirst, JoinAccepted, PartAccepted, ExactlyWhen}
+use Rattle.model.specs.Meaning.{FirstOf, FirstFits, OrderAscends, SmallestFirst, JoinAccepted, PartAccepted, ExactlyWhen}
 
 -- A refusal stands in a list.
 In : Refusal → List Refusal → Type 0
@@ -51,6 +54,26 @@ fitting p (x ∷ xs) r up e =
     (t.0, λ q i l. ⊎_elim (λ same. ap p same ∙ off) (λ j. t.1 q j l) i))
     (cases_Bool (p x))
 
+-- The first that fits, where it stands.
+first_of : (p : Refusal → Bool) (rs : List Refusal) (r : Refusal) → first_fitting p rs ≡ Err r → FirstOf p rs r
+first_of p [] r e = cc
+first_of p (x ∷ xs) r e =
+    ⊎_elim
+    (λ on.
+    let f = rw on at e in
+    let s : x ≡ r = cc in
+    record { before = []; later = xs; stands = ap (λ (y : Refusal). y ∷ xs) s; passed = ap p (sym s) ∙ on; none = All-nil (λ q. p q ≡ false) })
+    (λ off.
+    let t = first_of p xs r (rw off at e) in
+    record {
+      before = x ∷ t.before;
+      later = t.later;
+      stands = ap (λ (ys : List Refusal). x ∷ ys) t.stands;
+      passed = t.passed;
+      none = All-cons (λ q. p q ≡ false) x t.before off t.none;
+    })
+    (cases_Bool (p x))
+
 -- Acceptance says that none fits.
 none_fitting : (p : Refusal → Bool) (rs : List Refusal) → first_fitting p rs ≡ Ok tt → (q : Refusal) → In q rs → p q ≡ false
 unfolding In
@@ -84,6 +107,31 @@ listed BadDigits = inr (inr (inr (inr (inr (inr (inr (inr (inr (inr (inr (inl re
 listed BadFrame = inr (inr (inr (inr (inr (inr (inr (inr (inr (inr (inr (inr (inl refl))))))))))))
 listed OutOfTurn = inr (inr (inr (inr (inr (inr (inr (inr (inr (inr (inr (inr (inr (inl refl)))))))))))))
 
+-- The table's reply is the first that fits in the checking order, or none does.
+pub first_fits_lem : FirstFits
+first_fits_lem lent s c = (
+  λ r e. first_of (fits lent s c) checking_order r e,
+  λ e q. none_fitting (fits lent s c) checking_order e q (listed q),
+)
+
+-- Each number of a list is below the next.
+rising : List ℕ → Bool
+rising [] = true
+rising (x ∷ []) = true
+rising (x ∷ (y ∷ ys)) = ltb x y && rising (y ∷ ys)
+
+increasing : (xs : List ℕ) → rising xs ≡ true → IsStrictlyIncreasing xs
+unfolding rising
+increasing [] h k l = absurd (omega (arith, l))
+increasing (x ∷ []) h k l = absurd (omega (arith, l))
+increasing (x ∷ (y ∷ ys)) h zero l = ltb-true x y (and_parts (ltb x y) (rising (y ∷ ys)) h).0
+increasing (x ∷ (y ∷ ys)) h (suc k) l = simp unary_clauses (simp unary_clauses at (increasing (y ∷ ys) (and_parts (ltb x y) (rising (y ∷ ys)) h).1 k (omega arith)))
+
+-- The checking order ascends by number.
+pub order_ascends_lem : OrderAscends
+unfolding rising
+order_ascends_lem = increasing (map refusal_number checking_order) refl
+
 -- The table's reply is the smallest that fits, or none does.
 pub smallest_first_lem : SmallestFirst
 smallest_first_lem lent s c = (
@@ -114,9 +162,9 @@ exactly_when g capacity u v = (join_only, join_if, part_only, part_if)
     part_if h = rw (lt-ltb u g.order h.0, lt-ltb v g.order h.1, ne_eqb u v h.2, h.3)
 
 -- What an accepted make says.
-pub make_accepted : (lent : Lent) (n : ℕ) → reply lent unmade (Make n) ≡ Ok tt → (1 ≤ n) × (n ≤ make_limit) × (lent.enough n ≡ true)
+pub make_accepted : (lent : Lent) (n : ℕ) → reply lent unmade (Make n) ≡ Ok tt → (1 ≤ n) × (n ≤ make_limit) × (lent.room.enough n ≡ true)
 make_accepted lent n h =
-    let p = passed (leb 1 n && leb n make_limit) (lent.enough n) h in
+    let p = passed (leb 1 n && leb n make_limit) (lent.room.enough n) h in
     let q = and_parts (leb 1 n) (leb n make_limit) p.0 in
     (leb-true 1 n q.0, leb-true n make_limit q.1, p.1)
   where

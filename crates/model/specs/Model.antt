@@ -1,12 +1,16 @@
--- The reference model of a session: what is laid and what is struck, from the calls alone.
+-- The reference model of a session: what is laid and what is struck, from the calls alone, and
+-- what is lent with a call.
 --
 --   make_limit, strike_limit   the most vertices a make accepts; the most edges struck at a time
 --   Model, blank, bare         an order, a capacity, edges laid and struck; with none; with none struck
 --   in_force                   the graph of the edges laid and not struck
---   Lent                       what the memory lent to a make is good for
+--   subject                    the graph that questions are about
+--   Room                       what the memory of a make is good for
+--   Lent, lent_of              all that is lent with a call
 --   State                      before an accepted make, or after it
 use Rattle.std.specs.Prelude.{ℕ, Bool, false, not, ◌&&◌}
 use Rattle.graph.specs.Graph.{Graph, added, removed}
+use Rattle.model.specs.declared.sizes.Sizes.{Sizes}
 
 abbrev pub make_limit : ℕ
 make_limit = 200
@@ -34,23 +38,35 @@ bare g capacity = record { order = g.order; capacity = capacity; laid = g.joined
 abbrev pub in_force : Model → Graph
 in_force m = record { order = m.order; joined = λ u v. not (m.struck u v) && m.laid u v }
 
+-- The graph that questions are about.
+abbrev pub subject : Model → Graph
+subject m = in_force m
+
 abbrev pub lay : Model → ℕ → ℕ → Model
-lay m u v = record { order = m.order; capacity = m.capacity; laid = added m.laid u v; struck = m.struck }
+lay m u v = record m { laid = added m.laid u v }
 
 abbrev pub take_up : Model → ℕ → ℕ → Model
-take_up m u v = record { order = m.order; capacity = m.capacity; laid = removed m.laid u v; struck = m.struck }
+take_up m u v = record m { laid = removed m.laid u v }
 
 abbrev pub strike_out : Model → ℕ → ℕ → Model
-strike_out m u v = record { order = m.order; capacity = m.capacity; laid = m.laid; struck = added m.struck u v }
+strike_out m u v = record m { struck = added m.struck u v }
 
 abbrev pub lift_up : Model → ℕ → ℕ → Model
-lift_up m u v = record { order = m.order; capacity = m.capacity; laid = m.laid; struck = removed m.struck u v }
+lift_up m u v = record m { struck = removed m.struck u v }
 
--- What the memory lent to a make is good for: whether it is enough for a map of so many
--- vertices, and how many edges that map then takes.
-pub record Lent : Type 0 where
+-- What the memory of a make is good for: whether it is enough for a map of so many vertices, and
+-- how many edges that map then takes.
+pub record Room : Type 0 where
   pub enough : ℕ → Bool
   pub capacity : ℕ → ℕ
+
+-- All that is lent with a call: the memory of a map, which only a make takes, and a workspace.
+pub record Lent : Type 0 where
+  pub room : Room
+  pub sizes : Sizes
+
+abbrev pub lent_of : Room → Sizes → Lent
+lent_of room sizes = record { room = room; sizes = sizes }
 
 pub data State : Type 0 where
   unmade : State

@@ -1,22 +1,25 @@
 -- The table of refusals, and what a call is answered by it.
 --
---   fits             whether a refusal fits a call: a clause a row
+--   PairTest         a test of two vertices on a model
+--   row              a row about a map that stands: the kinds of calls that it is about, and its test
+--   fits             whether a refusal fits a call: a row for each refusal
 --   checking_order   which rows are looked at first
 --   reply            the first row that fits, or acceptance
-use Rattle.std.specs.Prelude.{ℕ, Bool, true, false, cond, not, ◌&&◌, List, [], ◌∷◌, Ok, Err, Result, ◌==◌, nat_le, nat_lt}
+--   alone, nothing   memory for a map and no workspace; neither
+--   reply_on         what an edit of a map that stands is answered
+use Rattle.std.specs.Prelude.{ℕ, Bool, false, cond, not, ◌&&◌, List, [], ◌∷◌, Ok, Err, Result, ◌==◌, nat_le, nat_lt}
 use Rattle.graph.specs.Graph.{order_limit, edges_below}
 use Rattle.model.specs.declared.call.Call.{Call}
-use Rattle.model.specs.declared.call.Call.TheVariants.{Make, Join, Part, Strike, Lift}
+use Rattle.model.specs.declared.call.Call.TheVariants.{Make, Strike}
 use Rattle.model.specs.declared.refusal.Refusal.{Refusal}
 use Rattle.model.specs.declared.refusal.Refusal.TheVariants.{BadOrder, ShortMemory, NoVertex, SameVertex, IsStruck, IsJoined, NotJoined, NotStruck, NoRoom, OneVertex, Adjacent, BadDigits, BadFrame, OutOfTurn}
-use Rattle.model.specs.Model.{Model, Lent, State, unmade, made, in_force, make_limit, strike_limit}
+use Rattle.model.specs.Kinds.{Kind, join, part, strike, lift, edits, is_of, is_make, is_question, ends}
+use Rattle.model.specs.Sizes.{no_sizes, needed, below}
+use Rattle.model.specs.Model.{Model, Room, Lent, State, unmade, made, in_force, subject, make_limit, strike_limit}
 
 -- A test of a pair of vertices on a model.
 abbrev pub PairTest : Type 0
 PairTest = Model → ℕ → ℕ → Bool
-
-abbrev pub never : PairTest
-never m u v = false
 
 abbrev pub outside : PairTest
 outside m u v = not (nat_lt u m.order && nat_lt v m.order)
@@ -44,63 +47,53 @@ at_capacity m u v = nat_le m.capacity (edges_below m.order m.laid)
 abbrev pub all_struck : PairTest
 all_struck m u v = nat_le strike_limit (edges_below order_limit m.struck)
 
--- A row about calls on a pair: its test for each kind, on a map that was made.
-abbrev pub row : (join part strike lift : PairTest) → State → Call → Bool
-row j p s l unmade c = false
-row j p s l (made m) (Make n) = false
-row j p s l (made m) (Join u v) = j m u v
-row j p s l (made m) (Part u v) = p m u v
-row j p s l (made m) (Strike u v) = s m u v
-row j p s l (made m) (Lift u v) = l m u v
+-- No room is left for a call: for a strike among the struck edges, else among the laid ones.
+abbrev pub full_for : Call → PairTest
+full_for (Strike u v) = all_struck
+full_for c = at_capacity
 
--- A row about make: its test before an accepted make, and after one.
-abbrev pub make_row : (before after : ℕ → Bool) → State → Call → Bool
-make_row b a unmade (Make n) = b n
-make_row b a unmade (Join u v) = false
-make_row b a unmade (Part u v) = false
-make_row b a unmade (Strike u v) = false
-make_row b a unmade (Lift u v) = false
-make_row b a (made m) (Make n) = a n
-make_row b a (made m) (Join u v) = false
-make_row b a (made m) (Part u v) = false
-make_row b a (made m) (Strike u v) = false
-make_row b a (made m) (Lift u v) = false
-
--- A call other than make before an accepted make, or a make after it.
-abbrev pub out_of_turn : State → Call → Bool
-out_of_turn unmade (Make n) = false
-out_of_turn unmade (Join u v) = true
-out_of_turn unmade (Part u v) = true
-out_of_turn unmade (Strike u v) = true
-out_of_turn unmade (Lift u v) = true
-out_of_turn (made m) (Make n) = true
-out_of_turn (made m) (Join u v) = false
-out_of_turn (made m) (Part u v) = false
-out_of_turn (made m) (Strike u v) = false
-out_of_turn (made m) (Lift u v) = false
+-- A row about calls on a map that stands: a call of one of its kinds passes its test.
+abbrev pub row : List Kind → PairTest → State → Call → Bool
+row kinds test unmade c = false
+row kinds test (made m) c = is_of kinds c && test m (ends c).0 (ends c).1
 
 abbrev pub bad_order : ℕ → Bool
 bad_order n = not (nat_le 1 n && nat_le n make_limit)
 
--- The table. The columns of a row about pairs are join, part, strike, lift. Rows with
--- `false` belong to calls that are not there yet, or to the reading of frames.
+-- A make of an order that no make accepts.
+abbrev pub bad_make : Call → Bool
+bad_make (Make n) = bad_order n
+bad_make c = false
+
+-- Less is lent than the call needs: to a make, of memory for its map; to a question, of a workspace.
+abbrev pub short : Lent → State → Call → Bool
+short lent unmade (Make n) = not (lent.room.enough n)
+short lent unmade c = false
+short lent (made m) c = is_question c && below lent.sizes (needed (subject m) c)
+
+-- A call other than make before an accepted make, or a make after it.
+abbrev pub out_of_turn : State → Call → Bool
+out_of_turn unmade c = not (is_make c)
+out_of_turn (made m) c = is_make c
+
+-- The table. Rows with `false` belong to calls that are not there yet, or to the reading of frames.
 abbrev pub fits : Lent → State → Call → Refusal → Bool
-fits lent s c BadOrder = make_row bad_order bad_order s c
-fits lent s c ShortMemory = make_row (λ n. not (lent.enough n)) (λ n. false) s c
-fits lent s c NoVertex = row outside outside outside outside s c
-fits lent s c SameVertex = row same same same same s c
-fits lent s c IsStruck = row struck struck struck never s c
-fits lent s c IsJoined = row joined never never never s c
-fits lent s c NotJoined = row never apart apart never s c
-fits lent s c NotStruck = row never never never unstruck s c
-fits lent s c NoRoom = row at_capacity never all_struck never s c
+fits lent s c BadOrder = bad_make c
+fits lent s c ShortMemory = short lent s c
+fits lent s c NoVertex = row edits outside s c
+fits lent s c SameVertex = row edits same s c
+fits lent s c IsStruck = row (join ∷ part ∷ strike ∷ []) struck s c
+fits lent s c IsJoined = row (join ∷ []) joined s c
+fits lent s c NotJoined = row (part ∷ strike ∷ []) apart s c
+fits lent s c NotStruck = row (lift ∷ []) unstruck s c
+fits lent s c NoRoom = row (join ∷ strike ∷ []) (full_for c) s c
 fits lent s c OneVertex = false
 fits lent s c Adjacent = false
 fits lent s c BadDigits = false
 fits lent s c BadFrame = false
 fits lent s c OutOfTurn = out_of_turn s c
 
--- Today the smallest number comes first.
+-- The order in which the rows are looked at.
 abbrev pub checking_order : List Refusal
 checking_order =
     BadOrder ∷ ShortMemory ∷ NoVertex ∷ SameVertex ∷ IsStruck ∷ IsJoined ∷ NotJoined ∷ NotStruck ∷ NoRoom
@@ -117,10 +110,14 @@ first_fitting p (r ∷ rs) = cond (p r) (Err r) (first_fitting p rs)
 abbrev pub reply : Lent → State → Call → Reply
 reply lent s c = first_fitting (fits lent s c) checking_order
 
--- What the memory of a map that stands is lent for: no make is open to it.
-abbrev pub nothing : Lent
-nothing = record { enough = λ n. false; capacity = λ n. 0 }
+-- Memory for a map, and no workspace.
+abbrev pub alone : Room → Lent
+alone room = record { room = room; sizes = no_sizes }
 
--- What a call on a map that stands is answered.
+-- Neither: no make is open to a map that stands, and no question to an empty workspace.
+abbrev pub nothing : Lent
+nothing = alone (record { enough = λ n. false; capacity = λ n. 0 })
+
+-- What an edit of a map that stands is answered.
 abbrev pub reply_on : Model → Call → Reply
 reply_on m c = reply nothing (made m) c

@@ -26,21 +26,27 @@ pub enum Call {
     Lift(Vertex, Vertex),
 }
 
-// What an accepted call answers, by the number that it prints.
+// What an accepted call answers.
 #[derive(Debug, Clone, Copy, PartialEq, Eq)]
 pub enum Answer {
-    Made = 0x81,
-    Joined = 0x82,
-    Parted = 0x83,
-    Struck = 0x84,
-    Lifted = 0x85,
+    Made,
+    Joined,
+    Parted,
+    Struck,
+    Lifted,
 }
 
-// The number of an answer.
+// The number of an answer. By cases, since an answer that holds values can take no number of its own.
 impl From<Answer> for u8 {
     ghost from_gives = { λ answer number. number ≡ answer_number answer };
 
     fn from(answer: Answer) -> u8 {
-        answer as u8
+        match answer {
+            Answer::Made => 0x81,
+            Answer::Joined => 0x82,
+            Answer::Parted => 0x83,
+            Answer::Struck => 0x84,
+            Answer::Lifted => 0x85,
+        }
     }
 }

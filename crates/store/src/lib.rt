@@ -4,9 +4,9 @@
 
 ghost use Rattle.std.specs.Prelude.{◌≡◌, ℕ, ◌≤◌, false, List, is_ok, Ok, IsOk, ◌↔◌};
 ghost use Rattle.graph.specs.Graph.{Graph, Simple, degree, next, empty};
-ghost use Rattle.model.specs.Model.{Lent, unmade, bare, make_limit};
+ghost use Rattle.model.specs.Model.{Room, unmade, bare, make_limit};
 ghost use Rattle.model.specs.Meaning.{JoinAccepted, PartAccepted};
-ghost use Rattle.model.specs.Table.{reply, reply_on};
+ghost use Rattle.model.specs.Table.{alone, reply, reply_on};
 ghost use Rattle.model.specs.declared.call.Call.TheVariants.{Make, Join, Part};
 ghost use Rattle.store.specs.Change.{after_join, after_part, held_after};
 ghost use Rattle.store.specs.Ends.{ends_reply};
@@ -88,7 +88,7 @@ pub trait Editable: Map + Sized + Drop {
     ghost most: { Self → ℕ };
 
     // What such memory is good for.
-    ghost lent: { Self.Memory → Lent };
+    ghost room_in: { Self.Memory → Room };
 
     // All that the memory under a store holds, word by word or cell by cell.
     ghost held: { Self → List ℕ };
@@ -107,13 +107,13 @@ pub trait Editable: Map + Sized + Drop {
 
     // Whether a map of n vertices can be made over the memory, by the table of refusals.
     fn room(n: u16, memory: &Self::Memory) -> Result<(), Refusal>
-        ensures { result ≡ reply (lent memory.now) unmade (Make n) };
+        ensures { result ≡ reply (alone (room_in memory.now)) unmade (Make n) };
 
     // A map of n vertices and no edge; `room` says when that goes.
     fn make(n: u16, memory: Self::Memory) -> Self
-        requires { reply (lent memory) unmade (Make n) ≡ Ok tt }
+        requires { reply (alone (room_in memory)) unmade (Make n) ≡ Ok tt }
         ensures graph { Self.graph result ≡ empty n }
-        ensures most { most result ≡ (lent memory).capacity n }
+        ensures most { most result ≡ (room_in memory).capacity n }
         ensures held { held result ≡ fresh memory n };
 
     // How many edges the store takes.

@@ -4,7 +4,7 @@
 ghost use Rattle.std.specs.Prelude.{◌≡◌, false, [], is_ok};
 ghost use Rattle.model.specs.Model.{made};
 ghost use Rattle.model.specs.Table.{nothing, reply_on};
-ghost use Rattle.model.specs.Law.{after};
+ghost use Rattle.model.specs.After.{after};
 ghost use Rattle.model.specs.declared.call.Call.TheVariants.{Join, Part, Strike as StrikeCall, Lift};
 ghost use Rattle.strike.specs.Struck.{without, without_simple};
 ghost use Rattle.strike.specs.Kept.{noted, kept, held_under, memory_after, unstruck_reply};
