@@ -1,0 +1,4 @@
+pub mod Told
+pub mod Right
+pub mod Law
+pub mod Laws
