@@ -2,16 +2,14 @@
 --
 --   Told, plain           an answer with its lists; an answer that has none
 --   edges_shown, ..       how many items of each list an answer has
---   route_text            routes as bytes of a buffer
---   routes_in             routes read off such bytes
 --   told                  an answer, with its lists read off the buffers
 --   Said, said            what a call tells, or why it was refused
 --   left_by               the buffers after a call
-use Rattle.std.specs.Prelude.{ℕ, zero, suc, cond, List, [], ◌∷◌, length, take, drop, nat_le, Ok, Err, Result}
-use Rattle.std.specs.List.{flat_map}
+use Rattle.std.specs.Prelude.{ℕ, List, [], take, Ok, Err, Result}
 use Rattle.flows.specs.Lists.{in_front}
 use Rattle.cuts.specs.declared.edge.Edge.{Edge}
 use Rattle.cuts.specs.declared.run.Run.{Run}
+use Rattle.cuts.specs.RouteBytes.{bytes_of, routes_in}
 use Rattle.model.specs.declared.call.Answer.{Answer}
 use Rattle.model.specs.declared.refusal.Refusal.{Refusal}
 use Rattle.workspace.specs.Buffers.{Buffers}
@@ -44,16 +42,6 @@ runs_shown a = 0
 abbrev pub routes_shown : Answer → ℕ
 routes_shown a = 0
 
--- Each route is a byte for its length, and then its vertices.
-abbrev pub route_text : List (List ℕ) → List ℕ
-route_text routes = flat_map (λ xs. length xs ∷ xs) routes
-
--- So many routes, read off such bytes, up to the first that is not there whole.
-abbrev pub routes_in : ℕ → List ℕ → List (List ℕ)
-routes_in zero bytes = []
-routes_in (suc k) [] = []
-routes_in (suc k) (n ∷ bytes) = cond (nat_le n (length bytes)) (take n bytes ∷ routes_in k (drop n bytes)) []
-
 -- An answer with what stands in the buffers for it.
 abbrev pub told : Answer → Buffers → Told
 told a b = record {
@@ -78,6 +66,6 @@ left_by (Ok t) b = record {
   edges = in_front t.edges b.edges;
   vertices = in_front t.vertices b.vertices;
   runs = in_front t.runs b.runs;
-  routes = in_front (route_text t.routes) b.routes;
+  routes = in_front (bytes_of t.routes) b.routes;
 }
 left_by (Err r) b = b
