@@ -2,23 +2,26 @@
 // call is answered as the model says, and the graph in force is the model's.
 #![tactic(auto)]
 
-ghost use Rattle.std.specs.Prelude.{◌≡◌, false, List, [], ◌∷◌, ◌++◌, is_ok, if◌then◌else◌, Ok, Err, IfOk, IfErr};
-ghost use Rattle.model.specs.Model.{Lent, unmade, made, blank};
-ghost use Rattle.model.specs.Table.{reply, bad_order};
-ghost use Rattle.model.specs.Law.{Right, after, Event, event, Sound};
+ghost use Rattle.std.specs.Prelude.{◌≡◌, Err, IfOk, IfErr};
+ghost use Rattle.model.specs.Model.{unmade};
+ghost use Rattle.model.specs.Table.{alone, reply};
 ghost use Rattle.model.specs.declared.call.Call.TheVariants.{Make};
-ghost use Rattle.model.specs.declared.refusal.Refusal.TheVariants.{BadOrder, OutOfTurn};
 ghost use Rattle.strike.specs.Kept.{noted};
 ghost use Rattle.strike.specs.Struck.{without_simple};
 ghost use Rattle.session.specs.Kept.{model_of, graph_of, held_of};
+ghost use Rattle.session.specs.Calls.{AcceptedMake, Opened};
 
+mod calls;
 mod pairs;
 mod refused;
+mod script;
 
-use model::{Answer, Call, Refusal, Vertex, is_bad_order};
+pub use calls::perform;
+use model::Vertex;
 use plan::{Line, Split};
 pub use refused::Refused;
 use rows::marks::Marks;
+pub use script::{Asked, play, respond};
 use store::{Editable, Map};
 use strike::Strike;
 
@@ -59,77 +62,30 @@ impl<S: Editable> Map for Planner<S> {
 }
 
 impl<S: Editable> Planner<S> {
-    // A planner of a map of n vertices with no edge. `S::room` says when it can be made.
-    pub fn make(n: u16, memory: S::Memory) -> Planner<S>
-        requires { reply (S.lent memory) unmade (Make n) ≡ Ok tt }
-        ensures model { model_of S.graph S.most result ≡ blank n ((S.lent memory).capacity n) }
-        ensures held { held_of S.held result ≡ S.fresh memory n }
-    {
-        Planner {
-            pile: Split::over(Line::over(Strike::over(S::make(n, memory)))),
-        }
-    }
-
-    // A planner of a map of n vertices with no edge, or why there is none, with the memory as it was lent.
-    pub fn open(n: u16, memory: S::Memory) -> Result<Planner<S>, Refused<S::Memory>>
-        ensures accepted { IfOk result (λ p. reply (S.lent memory) unmade (Make n) ≡ Ok tt) }
-        ensures model { IfOk result (λ p. model_of S.graph S.most p ≡ blank n ((S.lent memory).capacity n)) }
+    // The planner of an accepted make, or why it is refused. A refused make only looks at the memory, which
+    // `room` takes by `&`.
+    fn make(n: u16, memory: S::Memory) -> Result<Planner<S>, Refused<S::Memory>>
+        ensures accepted { IfOk result (λ p. AcceptedMake (S.room_in memory) n (model_of S.graph S.most p)) }
         ensures held { IfOk result (λ p. held_of S.held p ≡ S.fresh memory n) }
-        ensures refused { IfErr result (λ e. reply (S.lent memory) unmade (Make n) ≡ Err e.refusal) }
+        ensures refused { IfErr result (λ e. reply (alone (S.room_in memory)) unmade (Make n) ≡ Err e.refusal) }
         ensures back { IfErr result (λ e. e.memory ≡ memory) }
     {
         match S::room(n, &memory) {
-            Ok(()) => Ok(Planner::make(n, memory)),
+            Ok(()) => Ok(Planner {
+                pile: Split::over(Line::over(Strike::over(S::make(n, memory)))),
+            }),
             Err(refusal) => Err(Refused { refusal, memory }),
         }
     }
 
-    // Performs a call: an edit changes the map, a make is out of turn.
-    fn act(&mut self, call: Call) -> Result<Answer, Refusal>
-        ensures right { (lent : Lent) → Right lent (made (model_of S.graph S.most self.old)) call result }
-        ensures after { (lent : Lent) → made (model_of S.graph S.most self.new) ≡ after lent (made (model_of S.graph S.most self.old)) call }
-        ensures unchanged { is_ok result ≡ false → self.new ≡ self.old }
+    // A planner of a map of n vertices with no edge, with which a session begins, or why there is none,
+    // with the memory as it was lent.
+    pub fn open(n: u16, memory: S::Memory) -> Result<Planner<S>, Refused<S::Memory>>
+        ensures opened { IfOk result (λ p. Opened (S.room_in memory) n (model_of S.graph S.most p)) }
+        ensures held { IfOk result (λ p. held_of S.held p ≡ S.fresh memory n) }
+        ensures refused { IfErr result (λ e. reply (alone (S.room_in memory)) unmade (Make n) ≡ Err e.refusal) }
+        ensures back { IfErr result (λ e. e.memory ≡ memory) }
     {
-        match call {
-            Call::Make(n) => Err(later_make(n)),
-            Call::Join(u, v) => {
-                self.pile.map.map.join(u, v)?;
-                Ok(Answer::Joined)
-            }
-            Call::Part(u, v) => {
-                self.pile.map.map.part(u, v)?;
-                Ok(Answer::Parted)
-            }
-            Call::Strike(u, v) => {
-                self.pile.map.map.strike(u, v)?;
-                Ok(Answer::Struck)
-            }
-            Call::Lift(u, v) => {
-                self.pile.map.map.lift(u, v)?;
-                Ok(Answer::Lifted)
-            }
-        }
+        Planner::make(n, memory)
     }
-}
-
-// Why a make is refused once a map stands: its order first, its turn otherwise.
-fn later_make(n: u16) -> Refusal
-    ensures { result ≡ (if bad_order n then BadOrder else OutOfTurn) }
-{
-    if is_bad_order(n) {
-        return Refusal::BadOrder;
-    }
-    Refusal::OutOfTurn
-}
-
-// Performs one call on a planner, as `act` does, and keeps the law, which needs no more than what `act`
-// promises: a session that was sound stays sound with this call and what it returned, whatever memory
-// was lent.
-pub fn perform<S: Editable>(planner: &mut Planner<S>, call: Call) -> Result<Answer, Refusal>
-    ensures right { (lent : Lent) → Right lent (made (model_of S.graph S.most planner.old)) call result }
-    ensures after { (lent : Lent) → made (model_of S.graph S.most planner.new) ≡ after lent (made (model_of S.graph S.most planner.old)) call }
-    ensures unchanged { is_ok result ≡ false → planner.new ≡ planner.old }
-    ensures law { (lent : Lent) (events : List Event) → Sound events (made (model_of S.graph S.most planner.old)) → Sound (events ++ (event lent call result ∷ [])) (made (model_of S.graph S.most planner.new)) }
-{
-    planner.act(call)
 }

@@ -1,0 +1,33 @@
+use Rattle.std.proofs.Common.{List, subst, sym, ap, refl, take}
+use Rattle.std.proofs.lemmas.Result.{IfErr-weaker}
+use Rattle.law.specs.Law.{Event, Sound}
+use Rattle.law.proofs.Events.{sound_none}
+use Rattle.session.specs.Kept.{state_reached}
+use Rattle.session.specs.Script.{events_of}
+use Rattle.session.proofs.Scripts.{events_next, written_next, rest_next, back_again}
+use Rattle.session.proofs.script.play.Goals as goal
+
+-- No call is made yet.
+pub loop-asked-init : goal.loop-asked-init
+loop-asked-init g c = record { law = sound_none; written = tt; rest = refl; back = refl }
+
+-- One call more.
+pub loop-asked-preserved : goal.loop-asked-preserved
+loop-asked-preserved g c =
+    let room = g.S.Editable.room_in c.args.memory in
+    let os = c.args.script.now in
+    let bs = c.loop-asked.script in
+    let k = c.loop-asked.asked-index in
+    let b = c.answer-session.new.asked in
+    let here = c.loop-asked-test.true in
+    let long = c.loop-asked.auto.script in
+    let inv = c.loop-asked.invariant in
+    let waits = IfErr-weaker c.loop-asked.session _ _ (λ m e. ap g.S.Editable.room_in e) inv.back in
+    record {
+      law = subst (λ (es : List Event). Sound es (state_reached g.S.Map.graph g.S.Editable.most c.answer-session.result))
+          (sym (events_next room os bs k _ b here long inv.rest))
+          (c.answer-session.ensures.law room (events_of room (take k os) (take k bs)) waits inv.law);
+      written = written_next os bs k _ b here long inv.rest inv.written c.answer-session.ensures.answered;
+      rest = rest_next os bs k b here long inv.rest;
+      back = back_again c.answer-session.result c.loop-asked.session c.args.memory c.answer-session.ensures.back inv.back;
+    }
