@@ -1,5 +1,5 @@
 -- Kinds of calls. A new kind is a constructor here, a line of `is_kind`, and, where it edits the map, an
--- entry of `edits`.
+-- entry of `edits`; where it names two vertices, an entry of `pair_kinds` and a line of `ends`.
 --
 --   Kind, is_kind    a kind of calls; whether a call is of it
 --   is_of            whether a call is of one of some kinds
@@ -7,6 +7,7 @@
 --   edits, is_edit   the kinds that change the map; whether a call is of one of them
 --   is_question      whether it is neither: it is answered from the map, and changes nothing of it
 --   ends             the two vertices that a call names
+--   pair_kinds       the kinds that name two
 use Rattle.std.specs.Prelude.{ℕ, Bool, true, false, not, ◌||◌, List, [], ◌∷◌}
 use Rattle.model.specs.declared.call.Call.{Call}
 use Rattle.model.specs.declared.call.Call.TheVariants.{Make, Join, Part, Strike, Lift}
@@ -55,3 +56,7 @@ ends (Part u v) = (u, v)
 ends (Strike u v) = (u, v)
 ends (Lift u v) = (u, v)
 ends c = (0, 0)
+
+-- The kinds of calls that name two vertices.
+abbrev pub pair_kinds : List Kind
+pair_kinds = edits

@@ -13,7 +13,7 @@ use Rattle.model.specs.declared.call.Call.{Call}
 use Rattle.model.specs.declared.call.Call.TheVariants.{Make, Strike}
 use Rattle.model.specs.declared.refusal.Refusal.{Refusal}
 use Rattle.model.specs.declared.refusal.Refusal.TheVariants.{BadOrder, ShortMemory, NoVertex, SameVertex, IsStruck, IsJoined, NotJoined, NotStruck, NoRoom, OneVertex, Adjacent, BadDigits, BadFrame, OutOfTurn}
-use Rattle.model.specs.Kinds.{Kind, join, part, strike, lift, edits, is_of, is_make, is_question, ends}
+use Rattle.model.specs.Kinds.{Kind, join, part, strike, lift, pair_kinds, is_of, is_make, is_question, ends}
 use Rattle.model.specs.Sizes.{no_sizes, needed, below}
 use Rattle.model.specs.Model.{Model, Room, Lent, State, unmade, made, in_force, subject, make_limit, strike_limit}
 
@@ -80,8 +80,8 @@ out_of_turn (made m) c = is_make c
 abbrev pub fits : Lent → State → Call → Refusal → Bool
 fits lent s c BadOrder = bad_make c
 fits lent s c ShortMemory = short lent s c
-fits lent s c NoVertex = row edits outside s c
-fits lent s c SameVertex = row edits same s c
+fits lent s c NoVertex = row pair_kinds outside s c
+fits lent s c SameVertex = row pair_kinds same s c
 fits lent s c IsStruck = row (join ∷ part ∷ strike ∷ []) struck s c
 fits lent s c IsJoined = row (join ∷ []) joined s c
 fits lent s c NotJoined = row (part ∷ strike ∷ []) apart s c

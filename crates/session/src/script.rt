@@ -50,7 +50,7 @@ fn begin<S: Editable>(
 }
 
 // Makes one call of a session, with a workspace lent for it, and keeps the law.
-pub fn advance<S: Editable>(
+pub fn respond<S: Editable>(
     session: Result<Planner<S>, S::Memory>,
     call: Call,
     workspace: &mut Workspace<'_>,
@@ -84,7 +84,7 @@ pub fn advance<S: Editable>(
 }
 
 // Makes one call of a script, in the workspace that is lent with it.
-fn answer<S: Editable>(
+fn play_one<S: Editable>(
     session: Result<Planner<S>, S::Memory>,
     asked: &mut Asked<'_>,
 ) -> Result<Planner<S>, S::Memory>
@@ -95,7 +95,7 @@ fn answer<S: Editable>(
     ensures answered { Answered asked.old asked.new }
     ensures back { IfErr result (λ m. session ≡ Err m) }
 {
-    let (next, reply) = advance::<S>(session, asked.call, &mut asked.workspace);
+    let (next, reply) = respond::<S>(session, asked.call, &mut asked.workspace);
     asked.reply = reply;
     next
 }
@@ -113,7 +113,7 @@ pub fn play<S: Editable>(
 {
     let mut session = Err(memory);
     for asked in script.iter_mut() {
-        session = answer::<S>(session, asked);
+        session = play_one::<S>(session, asked);
     }
     session
 }

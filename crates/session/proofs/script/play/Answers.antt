@@ -18,16 +18,16 @@ loop-asked-preserved g c =
     let os = c.args.script.now in
     let bs = c.loop-asked.script in
     let k = c.loop-asked.asked-index in
-    let b = c.answer-session.new.asked in
+    let b = c.play_one-session.new.asked in
     let here = c.loop-asked-test.true in
     let long = c.loop-asked.auto.script in
     let inv = c.loop-asked.invariant in
     let waits = IfErr-weaker c.loop-asked.session _ _ (λ m e. ap g.S.Editable.room_in e) inv.back in
     record {
-      law = subst (λ (es : List Event). Sound es (state_reached g.S.Map.graph g.S.Editable.most c.answer-session.result))
+      law = subst (λ (es : List Event). Sound es (state_reached g.S.Map.graph g.S.Editable.most c.play_one-session.result))
           (sym (events_next room os bs k _ b here long inv.rest))
-          (c.answer-session.ensures.law room (events_of room (take k os) (take k bs)) waits inv.law);
-      written = written_next os bs k _ b here long inv.rest inv.written c.answer-session.ensures.answered;
+          (c.play_one-session.ensures.law room (events_of room (take k os) (take k bs)) waits inv.law);
+      written = written_next os bs k _ b here long inv.rest inv.written c.play_one-session.ensures.answered;
       rest = rest_next os bs k b here long inv.rest;
-      back = back_again c.answer-session.result c.loop-asked.session c.args.memory c.answer-session.ensures.back inv.back;
+      back = back_again c.play_one-session.result c.loop-asked.session c.args.memory c.play_one-session.ensures.back inv.back;
     }

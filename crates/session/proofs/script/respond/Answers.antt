@@ -5,7 +5,7 @@ use Rattle.law.specs.Law.{Right, event, Sound}
 use Rattle.law.proofs.Events.{one_more_lem}
 use Rattle.session.specs.Kept.{state_reached}
 use Rattle.session.specs.Calls.{lent_at, said_in}
-use Rattle.session.proofs.script.advance.Goals as goal
+use Rattle.session.proofs.script.respond.Goals as goal
 
 -- Where a planner stands, `perform` says it.
 pub returns-in-Ok-clause-right : goal.returns-in-Ok-clause-right
