@@ -30,10 +30,10 @@ impl<S: Editable> Planner<S> {
     // Performs a call; `perform` says the same of it.
     fn act(&mut self, call: Call, workspace: &mut Workspace<'_>) -> Result<Answer, Refusal>
         ensures right { (room : Room)
-            → Right (lent_at room workspace.old) (state_of S.Map.graph S.Editable.most self.old) call (said_in result workspace.new) }
+            → Right (lent_at room workspace.old) (state_of S.graph S.most self.old) call (said_in result workspace.new) }
         ensures after { (room : Room)
-            → state_of S.Map.graph S.Editable.most self.new
-            ≡ after (lent_at room workspace.old) (state_of S.Map.graph S.Editable.most self.old) call }
+            → state_of S.graph S.most self.new
+            ≡ after (lent_at room workspace.old) (state_of S.graph S.most self.old) call }
         ensures written { buffers workspace.new ≡ left_by (said_in result workspace.new) (buffers workspace.old) }
         ensures edit { is_question call ≡ false → Untouched workspace.old workspace.new }
         ensures question { is_edit call ≡ false → self.new ≡ self.old }
@@ -73,14 +73,14 @@ pub fn perform<S: Editable>(
     workspace: &mut Workspace<'_>,
 ) -> Result<Answer, Refusal>
     ensures law { (room : Room) (events : List Event)
-        → Sound events (state_of S.Map.graph S.Editable.most planner.old)
+        → Sound events (state_of S.graph S.most planner.old)
         → Sound (events ++ (event (lent_at room workspace.old) call (said_in result workspace.new) ∷ []))
-        (state_of S.Map.graph S.Editable.most planner.new) }
+        (state_of S.graph S.most planner.new) }
     ensures right { (room : Room)
-        → Right (lent_at room workspace.old) (state_of S.Map.graph S.Editable.most planner.old) call (said_in result workspace.new) }
+        → Right (lent_at room workspace.old) (state_of S.graph S.most planner.old) call (said_in result workspace.new) }
     ensures after { (room : Room)
-        → state_of S.Map.graph S.Editable.most planner.new
-        ≡ after (lent_at room workspace.old) (state_of S.Map.graph S.Editable.most planner.old) call }
+        → state_of S.graph S.most planner.new
+        ≡ after (lent_at room workspace.old) (state_of S.graph S.most planner.old) call }
     // What is told stands in front in the buffers, and all else in them is as it was.
     ensures written { buffers workspace.new ≡ left_by (said_in result workspace.new) (buffers workspace.old) }
     // An edit writes nothing at all into the workspace; all but an edit leave the planner as it was.

@@ -33,9 +33,9 @@ fn begin<S: Editable>(
     call: Call,
 ) -> (Result<Planner<S>, S::Memory>, Result<Answer, Refusal>)
     ensures right { (sizes : Sizes) (b : Buffers)
-        → Right (lent_of (S.Editable.room_in memory) sizes) unmade call (said result.1 b) }
+        → Right (lent_of (S.room_in memory) sizes) unmade call (said result.1 b) }
     ensures after { (sizes : Sizes)
-        → state_reached S.Map.graph S.Editable.most result.0 ≡ after (lent_of (S.Editable.room_in memory) sizes) unmade call }
+        → state_reached S.graph S.most result.0 ≡ after (lent_of (S.room_in memory) sizes) unmade call }
     ensures written { (b : Buffers) → b ≡ left_by (said result.1 b) b }
     ensures refused { is_ok result.1 ≡ false → result.0 ≡ Err memory }
     ensures back { IfErr result.0 (λ m. m ≡ memory) }
@@ -45,7 +45,7 @@ fn begin<S: Editable>(
     };
     match Planner::open(n, memory) {
         Ok(planner) => (Ok(planner), Ok(Answer::Made)),
-        Err((refusal, back)) => (Err(back), Err(refusal)),
+        Err(refused) => (Err(refused.memory), Err(refused.refusal)),
     }
 }
 
@@ -56,17 +56,17 @@ pub fn respond<S: Editable>(
     workspace: &mut Workspace<'_>,
 ) -> (Result<Planner<S>, S::Memory>, Result<Answer, Refusal>)
     ensures law { (room : Room) (events : List Event)
-        → IfErr session (λ m. S.Editable.room_in m ≡ room)
-        → Sound events (state_reached S.Map.graph S.Editable.most session)
+        → IfErr session (λ m. S.room_in m ≡ room)
+        → Sound events (state_reached S.graph S.most session)
         → Sound (events ++ (event (lent_at room workspace.old) call (said_in result.1 workspace.new) ∷ []))
-        (state_reached S.Map.graph S.Editable.most result.0) }
+        (state_reached S.graph S.most result.0) }
     ensures right { (room : Room)
-        → IfErr session (λ m. S.Editable.room_in m ≡ room)
-        → Right (lent_at room workspace.old) (state_reached S.Map.graph S.Editable.most session) call (said_in result.1 workspace.new) }
+        → IfErr session (λ m. S.room_in m ≡ room)
+        → Right (lent_at room workspace.old) (state_reached S.graph S.most session) call (said_in result.1 workspace.new) }
     ensures after { (room : Room)
-        → IfErr session (λ m. S.Editable.room_in m ≡ room)
-        → state_reached S.Map.graph S.Editable.most result.0
-        ≡ after (lent_at room workspace.old) (state_reached S.Map.graph S.Editable.most session) call }
+        → IfErr session (λ m. S.room_in m ≡ room)
+        → state_reached S.graph S.most result.0
+        ≡ after (lent_at room workspace.old) (state_reached S.graph S.most session) call }
     ensures written { buffers workspace.new ≡ left_by (said_in result.1 workspace.new) (buffers workspace.old) }
     ensures edit { is_question call ≡ false → Untouched workspace.old workspace.new }
     ensures refused { is_ok result.1 ≡ false → (result.0 ≡ session) × Untouched workspace.old workspace.new }
@@ -89,9 +89,9 @@ fn play_one<S: Editable>(
     asked: &mut Asked<'_>,
 ) -> Result<Planner<S>, S::Memory>
     ensures law { (room : Room) (events : List Event)
-        → IfErr session (λ m. S.Editable.room_in m ≡ room)
-        → Sound events (state_reached S.Map.graph S.Editable.most session)
-        → Sound (events ++ (event_of room asked.old asked.new ∷ [])) (state_reached S.Map.graph S.Editable.most result) }
+        → IfErr session (λ m. S.room_in m ≡ room)
+        → Sound events (state_reached S.graph S.most session)
+        → Sound (events ++ (event_of room asked.old asked.new ∷ [])) (state_reached S.graph S.most result) }
     ensures answered { Answered asked.old asked.new }
     ensures back { IfErr result (λ m. session ≡ Err m) }
 {
@@ -107,7 +107,7 @@ pub fn play<S: Editable>(
     memory: S::Memory,
     script: &mut [Asked<'_>],
 ) -> Result<Planner<S>, S::Memory>
-    ensures law { Sound (events_of (S.Editable.room_in memory) script.old script.new) (state_reached S.Map.graph S.Editable.most result) }
+    ensures law { Sound (events_of (S.room_in memory) script.old script.new) (state_reached S.graph S.most result) }
     ensures written { WrittenOnly script.old script.new }
     ensures back { IfErr result (λ m. m ≡ memory) }
 {
