@@ -1,4 +1,4 @@
--- The words of a grid: as many for each vertex, its row, and in a row a bit for each number below `vertex_bits`.
+-- The words of a grid: a row of them for each vertex, and in a row a bit for each number below `vertex_bits`.
 --
 --   vertex_words, vertex_bits   how many words the row of a vertex takes, and how many bits they are
 --   row_end      where the row of a vertex ends
@@ -18,12 +18,15 @@ use Rattle.graph.specs.Graph.{Graph, order_limit, count}
 use Rattle.bits.specs.Bits.{bit, has, with_number}
 use Rattle.model.specs.Model.{Room, make_limit}
 
+-- Four words a vertex.
 abbrev pub vertex_words : ℕ
 vertex_words = 4
 
+-- The numbers below it have a bit in a row.
 abbrev pub vertex_bits : ℕ
 vertex_bits = 64 * vertex_words
 
+-- The row of u begins at its own words, behind those of the vertices below it.
 abbrev pub row_end : ℕ → ℕ
 row_end u = vertex_words * u + vertex_words
 
