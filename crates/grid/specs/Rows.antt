@@ -26,7 +26,7 @@ vertex_words = 4
 abbrev pub vertex_bits : ℕ
 vertex_bits = 64 * vertex_words
 
--- The row of u begins at its own words, behind those of the vertices below it.
+-- The row of u lies from word `vertex_words * u` up to this one.
 abbrev pub row_end : ℕ → ℕ
 row_end u = vertex_words * u + vertex_words
 
