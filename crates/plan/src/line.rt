@@ -63,8 +63,8 @@ impl<M: Map> Line<M> {
     // not, all up to the next mark that differs are leapt over. The order n is passed here and below,
     // so that it is asked for once a cut.
     fn next_across(&mut self, marks: &Marks, u: Vertex, w: Vertex, n: u16) -> Option<Vertex>
-        requires { n ≡ (M.Map.graph self.old.map).order }
-        ensures value { result ≡ next_across (M.Map.graph self.old.map) (marked marks.now) u w }
+        requires { n ≡ (M.graph self.old.map).order }
+        ensures value { result ≡ next_across (M.graph self.old.map) (marked marks.now) u w }
         ensures same { self.new ≡ self.old }
     {
         let mut from = w;
@@ -80,12 +80,12 @@ impl<M: Map> Line<M> {
     // Writes the edges from u up that have one end marked, behind those that are written. The loop
     // leaps from one such edge to the next, where a `for` would ask for every vertex.
     fn write_row(&mut self, marks: &Marks, u: Vertex, n: u16, cut: &mut Filling<'_, Edge>)
-        requires order { n ≡ (M.Map.graph self.old.map).order }
+        requires order { n ≡ (M.graph self.old.map).order }
         requires within { u < n }
-        requires room { cut.old.len + length (crossing_row (M.Map.graph self.old.map) (marked marks.now) u) ≤ length cut.old.slots.now }
+        requires room { cut.old.len + length (crossing_row (M.graph self.old.map) (marked marks.now) u) ≤ length cut.old.slots.now }
         ensures same_reference { cut.new.slots.ghost_name ≡ cut.old.slots.ghost_name }
-        ensures next { cut.new.len ≡ cut.old.len + length (crossing_row (M.Map.graph self.old.map) (marked marks.now) u) }
-        ensures items { cut.new.slots.now ≡ placed cut.old.len (crossing_row (M.Map.graph self.old.map) (marked marks.now) u) cut.old.slots.now }
+        ensures next { cut.new.len ≡ cut.old.len + length (crossing_row (M.graph self.old.map) (marked marks.now) u) }
+        ensures items { cut.new.slots.now ≡ placed cut.old.len (crossing_row (M.graph self.old.map) (marked marks.now) u) cut.old.slots.now }
         ensures same { self.new ≡ self.old }
     {
         let mut w = u + 1;
@@ -98,10 +98,10 @@ impl<M: Map> Line<M> {
     // Writes the edges that have one end marked, behind those that are written, by their lower and
     // then by their higher end.
     fn write_rows(&mut self, marks: &Marks, cut: &mut Filling<'_, Edge>)
-        requires { cut.old.len + length (crossing_edges (M.Map.graph self.old.map) (marked marks.now)) ≤ length cut.old.slots.now }
+        requires { cut.old.len + length (crossing_edges (M.graph self.old.map) (marked marks.now)) ≤ length cut.old.slots.now }
         ensures same_reference { cut.new.slots.ghost_name ≡ cut.old.slots.ghost_name }
-        ensures next { cut.new.len ≡ cut.old.len + length (crossing_edges (M.Map.graph self.old.map) (marked marks.now)) }
-        ensures items { cut.new.slots.now ≡ placed cut.old.len (crossing_edges (M.Map.graph self.old.map) (marked marks.now)) cut.old.slots.now }
+        ensures next { cut.new.len ≡ cut.old.len + length (crossing_edges (M.graph self.old.map) (marked marks.now)) }
+        ensures items { cut.new.slots.now ≡ placed cut.old.len (crossing_edges (M.graph self.old.map) (marked marks.now)) cut.old.slots.now }
         ensures same { self.new ≡ self.old }
     {
         let n = self.map.order();
@@ -114,9 +114,9 @@ impl<M: Map> Line<M> {
 // As a map, the layer is the map below. The questions are passed on one by one: no form of the
 // language passes a trait on to a field.
 impl<M: Map> Map for Line<M> {
-    ghost graph = { λ s. M.Map.graph s.map };
+    ghost graph = { λ s. M.graph s.map };
 
-    ghost simple = { λ s. M.Map.simple s.map };
+    ghost simple = { λ s. M.simple s.map };
 
     // The number of vertices.
     fn order(&mut self) -> u16 {
@@ -148,11 +148,11 @@ impl<M: Map> Map for Line<M> {
 impl<M: Map> Plan for Line<M> {
     type Item = Edge;
 
-    ghost digraph = { λ s. both_ways (M.Map.graph s.map) };
+    ghost digraph = { λ s. both_ways (M.graph s.map) };
 
-    ghost sound = { λ s. both_ways_sound (M.Map.graph s.map) (M.Map.simple s.map) };
+    ghost sound = { λ s. both_ways_sound (M.graph s.map) (M.simple s.map) };
 
-    ghost small = { λ s. both_ways_small (M.Map.graph s.map) (M.Map.simple s.map) };
+    ghost small = { λ s. both_ways_small (M.graph s.map) (M.simple s.map) };
 
     // The number of vertices.
     fn node_count(&mut self) -> u16 {
@@ -177,19 +177,19 @@ impl<M: Map> Plan for Line<M> {
 
 // Its cuts are sets of edges.
 impl<M: Map> CutPlan for Line<M> {
-    ghost asked = { λ s a b. Two (M.Map.graph s.map) a b };
+    ghost asked = { λ s a b. Two (M.graph s.map) a b };
 
-    ghost two = { λ s. edge_two (M.Map.graph s.map) };
+    ghost two = { λ s. edge_two (M.graph s.map) };
 
-    ghost valued = { λ s a b. edge_value (M.Map.graph s.map) a b };
+    ghost valued = { λ s a b. edge_value (M.graph s.map) a b };
 
-    ghost nearest = { λ s a b. nearest_edge_cut (M.Map.graph s.map) a b };
+    ghost nearest = { λ s a b. nearest_edge_cut (M.graph s.map) a b };
 
-    ghost counted = { λ s. edge_counted (M.Map.graph s.map) (M.Map.simple s.map) };
+    ghost counted = { λ s. edge_counted (M.graph s.map) (M.simple s.map) };
 
-    ghost crossing = { λ s a u. crossing_edges (M.Map.graph s.map) u };
+    ghost crossing = { λ s a u. crossing_edges (M.graph s.map) u };
 
-    ghost told = { λ s. edge_told (M.Map.graph s.map) (M.Map.simple s.map) };
+    ghost told = { λ s. edge_told (M.graph s.map) (M.simple s.map) };
 
     // Writes the edges that have one end marked, by their lower and then by their higher end.
     #[tactic(auto, using(crate::proofs::Placing::placed_front))]

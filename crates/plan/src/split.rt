@@ -64,9 +64,9 @@ impl<M: Map> Split<M> {
     // The vertex v, if the arc through it leaves the marked nodes, or the arc from `from` to it. The
     // order n is passed, a plain number, so that it is asked for once a cut and not once a vertex.
     fn vertex_at(&mut self, from: Vertex, marks: &Marks, v: Vertex, n: u16) -> Option<Vertex>
-        requires order { n ≡ (M.Map.graph self.old.map).order }
+        requires order { n ≡ (M.graph self.old.map).order }
         requires within { (v < n) × (n ≤ order_limit) }
-        ensures value { result ≡ vertex_at (M.Map.graph self.old.map) from (marked marks.now) v }
+        ensures value { result ≡ vertex_at (M.graph self.old.map) from (marked marks.now) v }
         ensures same { self.new ≡ self.old }
     {
         if marks.has(v) {
@@ -79,10 +79,10 @@ impl<M: Map> Split<M> {
     // Writes the vertices at which arcs leave the marked nodes, behind those that are written, in
     // ascending order.
     fn write_vertices(&mut self, from: Vertex, marks: &Marks, cut: &mut Filling<'_, Vertex>)
-        requires { cut.old.len + length (crossing_vertices (M.Map.graph self.old.map) from (marked marks.now)) ≤ length cut.old.slots.now }
+        requires { cut.old.len + length (crossing_vertices (M.graph self.old.map) from (marked marks.now)) ≤ length cut.old.slots.now }
         ensures same_reference { cut.new.slots.ghost_name ≡ cut.old.slots.ghost_name }
-        ensures next { cut.new.len ≡ cut.old.len + length (crossing_vertices (M.Map.graph self.old.map) from (marked marks.now)) }
-        ensures items { cut.new.slots.now ≡ placed cut.old.len (crossing_vertices (M.Map.graph self.old.map) from (marked marks.now)) cut.old.slots.now }
+        ensures next { cut.new.len ≡ cut.old.len + length (crossing_vertices (M.graph self.old.map) from (marked marks.now)) }
+        ensures items { cut.new.slots.now ≡ placed cut.old.len (crossing_vertices (M.graph self.old.map) from (marked marks.now)) cut.old.slots.now }
         ensures same { self.new ≡ self.old }
     {
         let n = self.map.order();
@@ -112,11 +112,11 @@ fn exit_outside(n: u16, p: u16, w: u16, set: &Marks) -> Option<u16>
 impl<M: Map> Plan for Split<M> {
     type Item = Vertex;
 
-    ghost digraph = { λ s. split (M.Map.graph s.map) s.a s.b };
+    ghost digraph = { λ s. split (M.graph s.map) s.a s.b };
 
-    ghost sound = { λ s. split_is_sound (M.Map.graph s.map) s.a s.b (M.Map.simple s.map) };
+    ghost sound = { λ s. split_is_sound (M.graph s.map) s.a s.b (M.simple s.map) };
 
-    ghost small = { λ s. split_small (M.Map.graph s.map) s.a s.b (M.Map.simple s.map) };
+    ghost small = { λ s. split_small (M.graph s.map) s.a s.b (M.simple s.map) };
 
     // Two nodes for each vertex: the exit of an end is a node without arcs.
     fn node_count(&mut self) -> u16 {
@@ -156,19 +156,19 @@ impl<M: Map> Plan for Split<M> {
 
 // Its cuts are sets of vertices.
 impl<M: Map> CutPlan for Split<M> {
-    ghost asked = { λ s a b. Ends (M.Map.graph s.map) s.a s.b a b };
+    ghost asked = { λ s a b. Ends (M.graph s.map) s.a s.b a b };
 
-    ghost two = { λ s. vertex_two (M.Map.graph s.map) s.a s.b };
+    ghost two = { λ s. vertex_two (M.graph s.map) s.a s.b };
 
-    ghost valued = { λ s a b. vertex_value (M.Map.graph s.map) a b };
+    ghost valued = { λ s a b. vertex_value (M.graph s.map) a b };
 
-    ghost nearest = { λ s a b. nearest_vertex_cut (M.Map.graph s.map) a b };
+    ghost nearest = { λ s a b. nearest_vertex_cut (M.graph s.map) a b };
 
-    ghost counted = { λ s. vertex_counted (M.Map.graph s.map) (M.Map.simple s.map) s.a s.b };
+    ghost counted = { λ s. vertex_counted (M.graph s.map) (M.simple s.map) s.a s.b };
 
-    ghost crossing = { λ s a u. crossing_vertices (M.Map.graph s.map) a u };
+    ghost crossing = { λ s a u. crossing_vertices (M.graph s.map) a u };
 
-    ghost told = { λ s. vertex_told (M.Map.graph s.map) (M.Map.simple s.map) s.a s.b };
+    ghost told = { λ s. vertex_told (M.graph s.map) (M.simple s.map) s.a s.b };
 
     // Writes the vertices at which arcs leave the marked nodes, in ascending order.
     #[tactic(auto, using(crate::proofs::Placing::placed_front))]

@@ -15,7 +15,7 @@ use rows::marks::Marks;
 
 // The nodes from which no arc leads to t. They stay the same while a run pushes.
 pub fn far_from<P: Plan>(plan: &mut P, t: u16) -> Marks
-    ensures far { Far (P.Plan.digraph plan.old) t (marked result) }
+    ensures far { Far (P.digraph plan.old) t (marked result) }
     ensures same { plan.new ≡ plan.old }
 {
     let n = plan.node_count();
@@ -47,9 +47,9 @@ fn leads_on<P: Plan>(
     q: u16,
 ) -> bool
     requires { t < node_limit }
-    ensures value { result ≡ is_some (way_on (P.Plan.digraph plan.old) (carried flow.now) (marked closed.now) q) }
+    ensures value { result ≡ is_some (way_on (P.digraph plan.old) (carried flow.now) (marked closed.now) q) }
     ensures notes { notes.new.before.now
-        ≡ on_noted (way_on (P.Plan.digraph plan.old) (carried flow.now) (marked closed.now) q) q t notes.old.before.now }
+        ≡ on_noted (way_on (P.digraph plan.old) (carried flow.now) (marked closed.now) q) q t notes.old.before.now }
     ensures same { plan.new ≡ plan.old }
     ensures same_reference { notes.new.before.ghost_name ≡ notes.old.before.ghost_name }
 {
@@ -73,9 +73,9 @@ pub(crate) fn finds_goal<P: Plan>(
 ) -> bool
     requires { IfSome goal (λ t. t < node_limit) }
     ensures value { result
-        ≡ goal_from goal (marked closed.now) (way_on (P.Plan.digraph plan.old) (carried flow.now) (marked closed.now) q) q }
+        ≡ goal_from goal (marked closed.now) (way_on (P.digraph plan.old) (carried flow.now) (marked closed.now) q) q }
     ensures notes { notes.new.before.now
-        ≡ goal_noted goal (marked closed.now) (way_on (P.Plan.digraph plan.old) (carried flow.now) (marked closed.now) q) q
+        ≡ goal_noted goal (marked closed.now) (way_on (P.digraph plan.old) (carried flow.now) (marked closed.now) q) q
         notes.old.before.now }
     ensures same { plan.new ≡ plan.old }
     ensures same_reference { notes.new.before.ghost_name ≡ notes.old.before.ghost_name }

@@ -43,13 +43,13 @@ pub fn search<P: Plan, E: Waiting>(
     goal: Option<u16>,
     closed: &Marks,
 ) -> bool
-    requires start { from < (P.Plan.digraph plan.old).nodes }
-    requires goal { IfSome goal (λ t. (t < (P.Plan.digraph plan.old).nodes) × Closed (P.Plan.digraph plan.old) (carried flow.now) t (marked closed.now)) }
+    requires start { from < (P.digraph plan.old).nodes }
+    requires goal { IfSome goal (λ t. (t < (P.digraph plan.old).nodes) × Closed (P.digraph plan.old) (carried flow.now) t (marked closed.now)) }
     ensures same { plan.new ≡ plan.old }
     ensures same_reference { notes.new.before.ghost_name ≡ notes.old.before.ghost_name }
-    ensures found { result ≡ true → MatchOption goal ⊥ (λ t. Trail (residual (P.Plan.digraph plan.old) (carried flow.now)) from t notes.new.before.now) }
-    ensures swept { result ≡ false → (q : ℕ) → marked marks.new q ≡ residual_side (P.Plan.digraph plan.old) (carried flow.now) from q }
-    ensures missed { result ≡ false → IfSome goal (λ t. residual_side (P.Plan.digraph plan.old) (carried flow.now) from t ≡ false) }
+    ensures found { result ≡ true → MatchOption goal ⊥ (λ t. Trail (residual (P.digraph plan.old) (carried flow.now)) from t notes.new.before.now) }
+    ensures swept { result ≡ false → (q : ℕ) → marked marks.new q ≡ residual_side (P.digraph plan.old) (carried flow.now) from q }
+    ensures missed { result ≡ false → IfSome goal (λ t. residual_side (P.digraph plan.old) (carried flow.now) from t ≡ false) }
 {
     let n = plan.node_count();
     marks.clear();

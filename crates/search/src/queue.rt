@@ -26,7 +26,7 @@ pub(crate) fn enter<E: Waiting>(
 )
     requires { (q < set_limit) × (length queue.old.items < queue.old.room) }
     ensures marks { marked marks.new ≡ (λ k. marked marks.old k || k == q) }
-    ensures nodes { map E.Waiting.node queue.new.items ≡ map E.Waiting.node queue.old.items ++ (q ∷ []) }
+    ensures nodes { map E.node queue.new.items ≡ map E.node queue.old.items ++ (q ∷ []) }
     ensures room { queue.new.room ≡ queue.old.room }
 {
     marks.mark(q);

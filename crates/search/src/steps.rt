@@ -36,7 +36,7 @@ pub(crate) fn next_along<P: Plan>(
     p: u16,
     w: u16,
 ) -> Option<u16>
-    ensures value { result ≡ first (fresh (marked marks.now) (along (P.Plan.digraph plan.old) (carried flow.now) p)) w ((P.Plan.digraph plan.old).nodes - w) }
+    ensures value { result ≡ first (fresh (marked marks.now) (along (P.digraph plan.old) (carried flow.now) p)) w ((P.digraph plan.old).nodes - w) }
     ensures same { plan.new ≡ plan.old }
 {
     let mut v = w;
