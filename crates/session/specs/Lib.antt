@@ -1,3 +1,4 @@
 pub mod Kept
+pub mod Held
 pub mod Calls
 pub mod Script

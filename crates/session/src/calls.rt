@@ -6,9 +6,10 @@ ghost use Rattle.model.specs.Table.{bad_order};
 ghost use Rattle.model.specs.After.{after};
 ghost use Rattle.model.specs.declared.refusal.Refusal.TheVariants.{BadOrder, OutOfTurn};
 ghost use Rattle.workspace.specs.Parts.{buffers, sizes_of, SameMemory, Untouched};
+ghost use Rattle.strike.specs.Kept.{memory_after};
 ghost use Rattle.law.specs.Told.{left_by};
 ghost use Rattle.law.specs.Law.{Right, Event, event, Sound};
-ghost use Rattle.session.specs.Kept.{state_of, split_ends};
+ghost use Rattle.session.specs.Kept.{model_of, held_of, state_of, split_ends};
 ghost use Rattle.session.specs.Calls.{lent_at, said_in};
 
 use crate::Planner;
@@ -34,6 +35,8 @@ impl<S: Editable> Planner<S> {
         ensures after { (room : Room)
             → state_of S.graph S.most self.new
             ≡ after (lent_at room workspace.old) (state_of S.graph S.most self.old) call }
+        ensures held { held_of S.held self.new
+            ≡ memory_after S.with_edge_in S.without_edge_in (model_of S.graph S.most self.old) call (held_of S.held self.old) }
         ensures written { buffers workspace.new ≡ left_by (said_in result workspace.new) (buffers workspace.old) }
         ensures edit { is_question call ≡ false → Untouched workspace.old workspace.new }
         ensures question { is_edit call ≡ false → self.new ≡ self.old }
@@ -81,6 +84,9 @@ pub fn perform<S: Editable>(
     ensures after { (room : Room)
         → state_of S.graph S.most planner.new
         ≡ after (lent_at room workspace.old) (state_of S.graph S.most planner.old) call }
+    // The memory under the store holds what this call leaves in it, and all else there is as it was.
+    ensures held { held_of S.held planner.new
+        ≡ memory_after S.with_edge_in S.without_edge_in (model_of S.graph S.most planner.old) call (held_of S.held planner.old) }
     // What is told stands in front in the buffers, and all else in them is as it was.
     ensures written { buffers workspace.new ≡ left_by (said_in result workspace.new) (buffers workspace.old) }
     // An edit writes nothing at all into the workspace; all but an edit leave the planner as it was.

@@ -1,6 +1,6 @@
 // A whole session: calls, each with a workspace of its own. A session is the memory that waits for a
 // make, or the planner that took it.
-ghost use Rattle.std.specs.Prelude.{◌≡◌, false, List, [], ◌∷◌, ◌++◌, is_ok, Err, IfErr};
+ghost use Rattle.std.specs.Prelude.{◌≡◌, ℕ, false, List, [], ◌∷◌, ◌++◌, is_ok, Err, IfErr};
 ghost use Rattle.model.specs.declared.sizes.Sizes.{Sizes};
 ghost use Rattle.model.specs.Kinds.{is_question};
 ghost use Rattle.model.specs.Model.{Room, lent_of, unmade};
@@ -10,6 +10,7 @@ ghost use Rattle.workspace.specs.Parts.{buffers, sizes_of, SameMemory, Untouched
 ghost use Rattle.law.specs.Told.{said, left_by};
 ghost use Rattle.law.specs.Law.{Right, Event, event, Sound};
 ghost use Rattle.session.specs.Kept.{state_reached};
+ghost use Rattle.session.specs.Held.{held_next, held_through, Holds, HoldsChanged};
 ghost use Rattle.session.specs.Calls.{lent_at, said_in};
 ghost use Rattle.session.specs.Script.{event_of, events_of, Answered, WrittenOnly};
 
@@ -36,6 +37,8 @@ fn begin<S: Editable>(
         → Right (lent_of (S.room_in memory) sizes) unmade call (said result.1 b) }
     ensures after { (sizes : Sizes)
         → state_reached S.graph S.most result.0 ≡ after (lent_of (S.room_in memory) sizes) unmade call }
+    ensures held { (sizes : Sizes) (xs : List ℕ)
+        → Holds S.held result.0 (held_next (S.fresh memory) S.with_edge_in S.without_edge_in (lent_of (S.room_in memory) sizes) unmade call xs) }
     ensures written { (b : Buffers) → b ≡ left_by (said result.1 b) b }
     ensures refused { is_ok result.1 ≡ false → result.0 ≡ Err memory }
     ensures back { IfErr result.0 (λ m. m ≡ memory) }
@@ -67,6 +70,10 @@ pub fn respond<S: Editable>(
         → IfErr session (λ m. S.room_in m ≡ room)
         → state_reached S.graph S.most result.0
         ≡ after (lent_at room workspace.old) (state_reached S.graph S.most session) call }
+    ensures held { (room : Room) (fresh : ℕ → List ℕ)
+        → IfErr session (λ m. (S.room_in m ≡ room) × (S.fresh m ≡ fresh))
+        → HoldsChanged S.held session result.0
+        (held_next fresh S.with_edge_in S.without_edge_in (lent_at room workspace.old) (state_reached S.graph S.most session) call) }
     ensures written { buffers workspace.new ≡ left_by (said_in result.1 workspace.new) (buffers workspace.old) }
     ensures edit { is_question call ≡ false → Untouched workspace.old workspace.new }
     ensures refused { is_ok result.1 ≡ false → (result.0 ≡ session) × Untouched workspace.old workspace.new }
@@ -92,6 +99,10 @@ fn play_one<S: Editable>(
         → IfErr session (λ m. S.room_in m ≡ room)
         → Sound events (state_reached S.graph S.most session)
         → Sound (events ++ (event_of room asked.old asked.new ∷ [])) (state_reached S.graph S.most result) }
+    ensures held { (room : Room) (fresh : ℕ → List ℕ)
+        → IfErr session (λ m. (S.room_in m ≡ room) × (S.fresh m ≡ fresh))
+        → HoldsChanged S.held session result
+        (held_next fresh S.with_edge_in S.without_edge_in (lent_at room asked.old.workspace) (state_reached S.graph S.most session) asked.old.call) }
     ensures answered { Answered asked.old asked.new }
     ensures back { IfErr result (λ m. session ≡ Err m) }
 {
@@ -108,6 +119,8 @@ pub fn play<S: Editable>(
     script: &mut [Asked<'_>],
 ) -> Result<Planner<S>, S::Memory>
     ensures law { Sound (events_of (S.room_in memory) script.old script.new) (state_reached S.graph S.most result) }
+    ensures held { Holds S.held result
+        (held_through (S.fresh memory) S.with_edge_in S.without_edge_in unmade (events_of (S.room_in memory) script.old script.new) []) }
     ensures written { WrittenOnly script.old script.new }
     ensures back { IfErr result (λ m. m ≡ memory) }
 {
