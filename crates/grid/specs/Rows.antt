@@ -1,15 +1,17 @@
 -- The words of a grid: a row of them for each vertex, and in a row a bit for each number below `vertex_bits`.
 --
 --   vertex_words, vertex_bits   how many words the row of a vertex takes, and how many bits they are
---   row_end      where the row of a vertex ends
---   set_bits     how many bits of a row are set
---   grid         the graph that words mean
---   Rows         words that begin with the rows of a graph
---   wiped        words with the rows of a map without edges
---   edge_words   words with the two bits of an edge set, or cleared
---   pairs        how many pairs n vertices make: the edges that a grid takes
---   lent_words   what words are good for, lent to a make
---   RestStays    the words past the rows are as they were before the make
+--   row_end        where the row of a vertex ends
+--   set_bits       how many bits of a row are set
+--   grid           the graph that words mean
+--   Rows           words that begin with the rows of a graph
+--   wiped          words with the rows of a map without edges
+--   edge_words     words with the two bits of an edge set, or cleared
+--   pairs          how many pairs n vertices make: the edges that a grid takes
+--   lent_words     what words are good for, lent to a make
+--   RestStays      the words past the rows are as they were before the make
+--   grid_rows      what words mean as a graph, they hold as its rows
+--   few_vertices   what a make accepts is small enough for a graph
 use Rattle.std.specs.Prelude.{◌≡◌, ℕ, ◌+◌, ◌-◌, ◌*◌, ◌/◌, ◌<◌, ◌≤◌, Bool, ◌&&◌, List, ◌++◌, length, drop, replicate, nat_le, nat_lt, slice_index}
 use Rattle.std.proofs.Common.{lit≤}
 use Rattle.std.proofs.Math.Nat.{le_trans}

@@ -1,19 +1,20 @@
--- The model that a strike layer keeps, over a store whose graph and capacity are given.
+-- The model that a strike layer keeps, over a store whose graph and capacity are given, and what the
+-- memory under it holds.
 --
---   noted                the pairs that are struck
---   kept                 the model: the store's edges are laid, the noted ones struck
---   held_under           what the memory under the store holds
---   laid_graph           the graph of the laid edges, struck or not
---   memory_after         what memory holds after a call on a model
---   unstruck_reply       what is answered of two numbers before the store is asked
+--   noted             the pairs that are struck
+--   kept              the model: the store's edges are laid, the noted ones struck
+--   held_under        what the memory under the store holds
+--   laid_graph        the graph of the laid edges, struck or not
+--   memory_after      what memory holds after a call on a model
+--   unstruck_reply    what is answered of two numbers before the store is asked
 use Rattle.std.specs.Prelude.{ℕ, cond, not, ◌&&◌, List, Ok, Err, ◌==◌, nat_lt}
 use Rattle.graph.specs.Graph.{Graph}
 use Rattle.model.specs.declared.call.Call.{Call}
 use Rattle.model.specs.declared.call.Call.TheVariants.{Join, Part}
 use Rattle.model.specs.Model.{Model}
 use Rattle.model.specs.Table.{Reply, reply_on}
-use Rattle.store.specs.Change.{held_after}
 use Rattle.model.specs.declared.refusal.Refusal.TheVariants.{NoVertex, SameVertex, IsStruck}
+use Rattle.store.specs.Change.{held_after}
 use Rattle.strike.specs.Struck.{listed}
 use Rattle.strike.specs.declared.Strike.{Strike}
 
