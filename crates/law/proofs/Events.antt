@@ -6,8 +6,8 @@ use Rattle.model.specs.Model.{State, unmade, made, blank}
 use Rattle.model.specs.Table.{Reply}
 use Rattle.model.specs.After.{settle, after}
 use Rattle.law.specs.Told.{plain}
-use Rattle.law.specs.Law.{Event, event, after_all, Right, AllRight, Sound}
-use Rattle.law.specs.Laws.{OneMore, Begun}
+use Rattle.law.specs.Law.{Event, event, after_all, Right, AllRight}
+use Rattle.law.specs.Laws.{OneMore, NotBegun, Begun}
 use Rattle.law.proofs.Across.{right_goes_together_lem}
 
 -- The state after one event more.
@@ -23,9 +23,9 @@ right_one s [] e f h = (h, tt)
 right_one s (x ∷ es) e f h = (f.0, right_one (after x.lent s x.call) es e f.1 h)
 
 -- No event has happened before the make.
-pub sound_none : Sound [] unmade
+pub not_begun_lem : NotBegun
 unfolding after_all AllRight
-sound_none = record { stands = refl; replies = tt; across = right_goes_together_lem [] tt }
+not_begun_lem = record { stands = refl; replies = tt; across = right_goes_together_lem [] tt }
 
 -- A right reply to one call more keeps a session sound.
 pub one_more_lem : OneMore
@@ -40,5 +40,5 @@ one_more_lem es s s' lent c r sound right next =
 -- An accepted make is the first event of a sound session.
 pub begun_lem : Begun
 begun_lem lent n accepted =
-    one_more_lem [] unmade (made (blank n (lent.room.capacity n))) lent (Make n) (Ok (plain Made)) sound_none (accepted, refl)
+    one_more_lem [] unmade (made (blank n (lent.room.capacity n))) lent (Make n) (Ok (plain Made)) not_begun_lem (accepted, refl)
     (sym (ap (λ (r : Reply). settle r (made (blank n (lent.room.capacity n))) unmade) accepted))

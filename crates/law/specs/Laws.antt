@@ -2,6 +2,7 @@
 --
 --   RightGoesTogether   what was right at two moments goes together
 --   OneMore             one right reply more keeps a session sound
+--   NotBegun            a session begins before its make, with no event
 --   Begun               an accepted make alone is a sound session
 use Rattle.std.specs.Prelude.{◌≡◌, ℕ, List, ◌++◌, [], ◌∷◌, Ok}
 use Rattle.model.specs.declared.call.Call.{Call}
@@ -22,6 +23,10 @@ abbrev pub OneMore : Type 0
 OneMore =
     (events : List Event) (s s' : State) (lent : Lent) (c : Call) (r : Said)
     → Sound events s → Right lent s c r → s' ≡ after lent s c → Sound (events ++ (event lent c r ∷ [])) s'
+
+-- Before any call nothing is made.
+abbrev pub NotBegun : Type 0
+NotBegun = Sound [] unmade
 
 -- A make that was accepted is a sound session of one event.
 abbrev pub Begun : Type 0

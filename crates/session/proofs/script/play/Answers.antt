@@ -2,7 +2,7 @@ use Rattle.std.proofs.Common.{List, [], subst, sym, ap, refl, take}
 use Rattle.std.proofs.lemmas.Result.{IfErr-weaker}
 use Rattle.model.specs.Model.{unmade}
 use Rattle.law.specs.Law.{Event, Sound}
-use Rattle.law.proofs.Events.{sound_none}
+use Rattle.law.proofs.Events.{not_begun_lem}
 use Rattle.session.specs.Kept.{state_reached}
 use Rattle.session.specs.Held.{held_through, Holds}
 use Rattle.session.specs.Script.{events_of}
@@ -12,7 +12,7 @@ use Rattle.session.proofs.script.play.Goals as goal
 
 -- No call is made yet.
 pub loop-asked-init : goal.loop-asked-init
-loop-asked-init g c = record { law = sound_none; held = tt; written = tt; rest = refl; back = refl }
+loop-asked-init g c = record { law = not_begun_lem; held = tt; written = tt; rest = refl; back = refl }
 
 -- One call more.
 pub loop-asked-preserved : goal.loop-asked-preserved
