@@ -8,6 +8,7 @@ use ring::Step;
 use session::{Planner, perform};
 use std::test::Fail;
 use store::Editable;
+use workspace::Workspace;
 
 // What cells and buffers are filled with before a question.
 pub(crate) const NO_STEP: Step = Step {
@@ -84,9 +85,13 @@ pub(crate) fn planned<S: Editable>(
     edges: &[Edge],
     memory: S::Memory,
 ) -> Result<Planner<S>, Fail> {
-    let mut planner = Planner::<S>::open(n, memory)?;
+    let mut planner = Planner::<S>::open(n, memory).map_err(|refused| refused.0)?;
     for e in edges {
-        perform(&mut planner, Call::Join(e.low, e.high))?;
+        perform(
+            &mut planner,
+            Call::Join(e.low, e.high),
+            &mut Workspace::none(),
+        )?;
     }
     Ok(planner)
 }

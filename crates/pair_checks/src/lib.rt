@@ -11,4 +11,6 @@ mod random;
 #[cfg(test)]
 mod refusals;
 #[cfg(test)]
+mod scripts;
+#[cfg(test)]
 mod simple;

@@ -6,6 +6,7 @@ use model::Call;
 use session::perform;
 use std::test::Fail;
 use store::Editable;
+use workspace::Workspace;
 
 // Two vertices, unjoined.
 fn two_apart<S: Editable>(memory: S::Memory) -> Result<(), Fail> {
@@ -95,13 +96,13 @@ fn cliques_and_hub<S: Editable>(memory: S::Memory) -> Result<(), Fail> {
     for u in 0..12 {
         for v in u + 1..12 {
             if u / 6 == v / 6 {
-                perform(&mut planner, Call::Join(u, v))?;
+                perform(&mut planner, Call::Join(u, v), &mut Workspace::none())?;
             }
         }
     }
     check_edges(&mut planner, 0, 6, &[edge(0, 12), edge(1, 12)])?;
     check_vertices(&mut planner, 0, 6, &[12])?;
-    perform(&mut planner, Call::Strike(12, 0))?;
+    perform(&mut planner, Call::Strike(12, 0), &mut Workspace::none())?;
     check_edges(&mut planner, 2, 11, &[edge(1, 12)])?;
     check_vertices(&mut planner, 2, 11, &[1])
 }

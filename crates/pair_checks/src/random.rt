@@ -8,6 +8,7 @@ use session::{Planner, perform};
 use std::alloc::Global;
 use std::test::Fail;
 use store::Editable;
+use workspace::Workspace;
 
 // How many maps are tried, over each store.
 const MAPS: u16 = 200;
@@ -65,7 +66,7 @@ fn check_map<S: Editable>(heap: Global, map: &Small, memory: S::Memory) -> Resul
     for u in 0..map.n {
         for v in u..map.n {
             if map.joined(u, v) {
-                perform(&mut planner, Call::Join(u, v))?;
+                perform(&mut planner, Call::Join(u, v), &mut Workspace::none())?;
             }
         }
     }

@@ -12,6 +12,7 @@ use ring::Step;
 use session::{Planner, perform};
 use std::io::Read;
 use store::{Editable, Map};
+use workspace::Workspace;
 
 // The most bytes that are read.
 const READ_LIMIT: u64 = 1048576;
@@ -149,7 +150,7 @@ fn sums_of<S: Editable>(memory: S::Memory, text: &str) -> Option<Sums> {
     };
     let mut planner = Planner::<S>::open(n, memory).ok()?;
     for call in lines.filter_map(|line| read_call(line.as_bytes()).ok()) {
-        let _ = perform(&mut planner, call);
+        let _ = perform(&mut planner, call, &mut Workspace::none());
     }
     Some(add_all(&mut planner))
 }
