@@ -7,6 +7,7 @@
 use Rattle.std.proofs.Common.{◌≡◌, ℕ, zero, suc, ◌-◌, ◌<◌, ◌≤◌, Bool, true, false, cond, not, ◌&&◌, ◌||◌, eqb, List, [], ◌∷◌, ◌++◌, reverse, get_or, All, sym, refl, ap, ◌∙◌, ⊎_elim, arith}
 use mathlib.Core.Path.{fun_ext}
 use mathlib.Core.List.{reverse-cons}
+use Rattle.std.proofs.Math.Bool.{or-false}
 use Rattle.std.proofs.lemmas.Bool.{cases_Bool, eqb-true, and_left, and_right, ne_eqb}
 use Rattle.std.proofs.lemmas.List.Elements.{All-head, All-tail}
 use Rattle.flows.specs.Lists.{among}
@@ -28,18 +29,13 @@ stepped_still f x y p q a b =
     stepped_at f x y p q
     ∙ ⊎_elim
     (λ (h : f y x ≡ true). rw (h, a) (and_true (f p q)))
-    (λ (h : f y x ≡ false). rw (h, b) (or_false (f p q)))
+    (λ (h : f y x ≡ false). rw (h, b) (or-false (f p q)))
     (cases_Bool (f y x))
   where
     -- Nothing is taken out.
     and_true : (b : Bool) → (b && true) ≡ b
     and_true true = refl
     and_true false = refl
-
-    -- Nothing is put in.
-    or_false : (b : Bool) → (b || false) ≡ b
-    or_false true = refl
-    or_false false = refl
 
 -- Two changes of one arc, of which no two meet, in either order.
 swapped : (h k u i o j e : Bool) → (j && o) ≡ false → (i && e) ≡ false

@@ -1,7 +1,7 @@
 // One unit more of a flow, pushed along a noted route.
 ghost use Rattle.std.specs.Prelude.{◌≡◌, ◌<◌, All};
 ghost use Rattle.graph.specs.Graph.{node_limit};
-ghost use Rattle.flows.specs.Flow.{stepped, pushed};
+ghost use Rattle.flows.specs.Flow.{stepped};
 ghost use Rattle.rows.specs.Flow.{carried};
 ghost use Rattle.augment.specs.Trails.{walk_back, pushed_back, PushedBack};
 

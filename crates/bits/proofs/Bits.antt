@@ -71,9 +71,9 @@ digit_or zero (suc (suc e)) h k = let z : ⊥ = omega arith in absurd z
 digit_or (suc zero) (suc (suc e)) h k = let z : ⊥ = omega arith in absurd z
 
 -- A bit of x | y.
-pub bit-or : (x y j : ℕ) → bit (bit_or x y) j ≡ (bit x j || bit y j)
+pub bit_of_or : (x y j : ℕ) → bit (bit_or x y) j ≡ (bit x j || bit y j)
 unfolding bit
-bit-or x y j =
+bit_of_or x y j =
     ap (λ (z : ℕ). eqb (z % 2) 1) (or_shr x y j)
     ∙ ap (λ (z : ℕ). eqb z 1) (or_mod (x / 2 ^ j) (y / 2 ^ j) 1)
     ∙ digit_or (x / 2 ^ j % 2) (y / 2 ^ j % 2) (omega arith) (omega arith)

@@ -1,6 +1,5 @@
 -- Two sets of words put together, word by word.
 --
---   word_both      the bits of two words
 --   joined_to      the words below i have the numbers of both sets, the others those of the first
 --   joined_none    before any word is
 --   joined_more    word i too
@@ -10,12 +9,7 @@ use lib.Bits.{bit_or}
 use Rattle.std.proofs.Math.Bool.{or-false}
 use Rattle.std.proofs.lemmas.Bool.{cases_eq, cases_lt, lt-ltb, le-ltb, and_right}
 use Rattle.bits.specs.Bits.{bit, has}
-use Rattle.bits.proofs.Bits.{bit-or}
 use Rattle.bits.proofs.Parts.{has_past}
-
--- A bit of two words is one of either.
-pub word_both : (x y j : ℕ) → bit (bit_or x y) j ≡ (bit x j || bit y j)
-word_both x y j = bit-or x y j
 
 -- Whether number j is in the words below i of two sets, or in the others of the first.
 abbrev pub joined_to : List ℕ → List ℕ → ℕ → ℕ → Bool

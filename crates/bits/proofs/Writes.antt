@@ -5,7 +5,7 @@ use Rattle.std.proofs.lemmas.Nat.{pow_below, one_shl}
 use Rattle.std.proofs.lemmas.Bool.Decides.{nat_tests}
 use Rattle.std.proofs.lemmas.Bool.{cases_eq, ne_eqb, cond-false}
 use Rattle.bits.specs.Bits.{bit, has, Written, with_bit}
-use Rattle.bits.proofs.Bits.{pow_bit, bit-or}
+use Rattle.bits.proofs.Bits.{pow_bit, bit_of_or}
 use Rattle.bits.proofs.Turns.{bit-and, word_turned}
 
 -- What or with a mask does to a bit.
@@ -26,7 +26,7 @@ and_mask false false = refl
 pub written_on : (x k : ℕ) → k < 64 → Written x k true (bit_or x (1 * 2 ^ k % 2 ^ 64))
 written_on x k small =
     let mask : 1 * 2 ^ k % 2 ^ 64 ≡ 2 ^ k = one_shl k 64 small in
-    rw mask record { bits = λ j l. bit-or x (2 ^ k) j ∙ ap (λ (b : Bool). bit x j || b) (pow_bit k j) ∙ or_mask (bit x j) (eqb j k) }
+    rw mask record { bits = λ j l. bit_of_or x (2 ^ k) j ∙ ap (λ (b : Bool). bit x j || b) (pow_bit k j) ∙ or_mask (bit x j) (eqb j k) }
 
 -- A word with bit k clear.
 pub written_off : (x k : ℕ) → k < 64 → Written x k false (bit_and x ((2 ^ 64 - 1) - 1 * 2 ^ k % 2 ^ 64))

@@ -78,7 +78,7 @@ fn word_outside(word: u64, other: u64) -> u64
 }
 
 // The numbers of two words.
-#[tactic(auto, using(crate::proofs::Joins::word_both))]
+#[tactic(auto, using(crate::proofs::Bits::bit_of_or))]
 fn word_joined(word: u64, other: u64) -> u64
     ensures { (j : ℕ) → bit result j ≡ (bit word j || bit other j) }
 {

@@ -3,6 +3,7 @@
 use Rattle.std.proofs.Common.{◌≡◌, ℕ, ◌+◌, ◌-◌, ◌*◌, ◌/◌, ◌<◌, ◌≤◌, Bool, true, false, cond, ◌&&◌, ◌||◌, eqb, ltb, List, ◌++◌, length, drop, replicate, sym, refl, ap, ◌∙◌, ⊎_elim, arith, length-take}
 use mathlib.Core.Path.{fun_ext}
 use Rattle.std.specs.List.{between}
+use Rattle.std.proofs.Math.Bool.{or-false}
 use Rattle.std.proofs.lemmas.Bool.{cases_lt, lt-ltb, le-ltb, eqb-true, ne_eqb, and_parts, and_from, and_left, and_right}
 use Rattle.graph.specs.Graph.{first}
 use Rattle.graph.proofs.Firsts.{first_ext}
@@ -27,11 +28,7 @@ head_past a q p h =
 
 -- So with no arc to it added, a set is as it was.
 pub none_added : (a : Arcs) (q p : ℕ) (b : Bool) → a.heads ≤ p → b ≡ (b || carried a q p)
-none_added a q p b h = rw (head_past a q p h) (sym (or_false b))
-  where
-    or_false : (b : Bool) → (b || false) ≡ b
-    or_false true = refl
-    or_false false = refl
+none_added a q p b h = rw (head_past a q p h) (sym (or-false b))
 
 -- Elsewhere a bit says whether an arc is there.
 carried_in : (a : Arcs) (q p : ℕ) → q < set_limit → p < a.heads → has a.words.now (row_words * p) q ≡ carried a q p

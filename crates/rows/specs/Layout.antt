@@ -6,14 +6,18 @@
 --   arc_words   how many words have room for a row of every head
 use Rattle.std.specs.Prelude.{ℕ, ◌*◌}
 
+-- Seven words for the nodes of a plan.
 abbrev pub set_words : ℕ
 set_words = 7
 
+-- A bit of these words for each number.
 abbrev pub set_limit : ℕ
-set_limit = 448
+set_limit = 64 * set_words
 
+-- The last word of a row is not used.
 abbrev pub row_words : ℕ
 row_words = 8
 
+-- A head can be any number that a set can have.
 abbrev pub arc_words : ℕ
 arc_words = row_words * set_limit

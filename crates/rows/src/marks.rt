@@ -1,4 +1,4 @@
-// The nodes that a search has seen: a set of numbers below a limit, in words.
+// A set of nodes: numbers below a limit, in words. A search marks in one what it has seen.
 ghost use Rattle.std.specs.Prelude.{◌≡◌, ℕ, ◌-◌, ◌*◌, ◌<◌, ◌≤◌, Bool, false, not, ◌||◌, length, if◌then◌else◌, ◌==◌};
 ghost use Rattle.graph.specs.Graph.{first};
 ghost use Rattle.bits.specs.Bits.{has};

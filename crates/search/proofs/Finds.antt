@@ -14,12 +14,12 @@ use Rattle.graph.proofs.Firsts.{Found, first_some}
 use Rattle.flows.specs.Flow.{Digraph, residual}
 use Rattle.flows.proofs.Lists.{never_true}
 use Rattle.augment.specs.Trails.{Trail}
-use Rattle.search.specs.Goals.{Far, Closed, way_on, leaves_off, goal_from, on_noted, goal_noted}
+use Rattle.search.specs.Goals.{Far, Closed, way_on, goal_from, on_noted, goal_noted}
 use Rattle.rows.specs.Marks.{fresh}
 use Rattle.search.specs.Steps.{along}
 use Rattle.rows.proofs.Fresh.{fresh_parts}
 use Rattle.search.proofs.Fresh.{along_step}
-use Rattle.search.proofs.States.{State, Entry, nowhere, found_here, free_of, new_marked, split, trail, entered}
+use Rattle.search.proofs.States.{leaves_off, State, Entry, nowhere, found_here, free_of, new_marked, split, trail, entered}
 
 -- What is looked for is not reached, if no node at which the search leaves off is.
 pub goal_missed : (goal : Option ℕ) (closed : ℕ → Bool) {reached : ℕ → Bool} → ((t : ℕ) → leaves_off goal closed t ≡ true → reached t ≡ false)

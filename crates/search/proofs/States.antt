@@ -7,7 +7,7 @@
 --   ended     nothing waits any more
 --   Entry     one node more is found, marked and noted
 --   entered   it waits too
-use Rattle.std.proofs.Common.{◌≡◌, ℕ, ◌+◌, ◌<◌, ◌≤◌, Bool, true, false, not, ◌||◌, eqb, ◌⊎◌, List, [], ◌∷◌, ◌++◌, length, set, sym, refl, ap, ◌∙◌, subst, inl, inr, ⊎_elim, arith, length-append}
+use Rattle.std.proofs.Common.{◌≡◌, ℕ, Option, Some, None, ◌+◌, ◌<◌, ◌≤◌, Bool, true, false, not, ◌||◌, eqb, ◌⊎◌, List, [], ◌∷◌, ◌++◌, length, set, sym, refl, ap, ◌∙◌, subst, inl, inr, ⊎_elim, arith, length-append}
 use Rattle.std.proofs.Math.Bool.{or-false}
 use Rattle.std.proofs.lemmas.Bool.{both_ways, eq-eqb, eqb-true, ne_eqb, or_cases, or_left, or_right, not_from_true, not_from_false}
 use Rattle.graph.specs.Graph.{count}
@@ -52,6 +52,12 @@ pub record State (d : Digraph) (f : ℕ → ℕ → Bool) (s : ℕ) (stop : ℕ 
 -- No node is looked at.
 abbrev pub Nobody : ℕ → Type 0
 Nobody x = ⊥
+
+-- Where a search leaves off when it finds a node: at the goal, or at an open node. Without a goal it never
+-- does.
+abbrev pub leaves_off : Option ℕ → (ℕ → Bool) → ℕ → Bool
+leaves_off None closed q = false
+leaves_off (Some t) closed q = eqb q t || not (closed q)
 
 -- At no node a search leaves off.
 abbrev pub nowhere : ℕ → Bool

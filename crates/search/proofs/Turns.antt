@@ -10,13 +10,13 @@ use Rattle.std.proofs.lemmas.Bool.{cases_lt, cases_eq, or_cases, or_left}
 use Rattle.graph.proofs.Firsts.{Found}
 use Rattle.flows.specs.Flow.{Digraph, residual}
 use Rattle.flows.proofs.Lists.{among_head, among_tail, among_cases}
-use Rattle.search.specs.Goals.{Closed, way_on, leaves_off, goal_from, goal_noted}
+use Rattle.search.specs.Goals.{Closed, way_on, goal_from, goal_noted}
 use Rattle.rows.specs.Marks.{fresh}
 use Rattle.search.specs.Steps.{along, back}
 use Rattle.augment.specs.Trails.{Trail}
 use Rattle.rows.proofs.Fresh.{fresh_parts, fresh_done}
 use Rattle.search.proofs.Fresh.{along_step}
-use Rattle.search.proofs.States.{State, Done, Nobody, Entry, unmarked, grown, new_marked, entered, fewer, roomy}
+use Rattle.search.proofs.States.{leaves_off, State, Done, Nobody, Entry, unmarked, grown, new_marked, entered, fewer, roomy}
 use Rattle.search.proofs.Finds.{found_with}
 
 -- Each number below v that passes the test is marked.

@@ -3,7 +3,7 @@
 --   Far          a set of the nodes from which no arc leads to t
 --   Closed       a set of the nodes from which no arc with room leads to t; the others are open
 --   way_on       the lowest open node to which an arc with room leads from q
---   leaves_off   whether a search leaves off when it finds q: at the goal, or at an open node
+--   on_noted     the notes, with the way on to the goal if there is one
 --   goal_from    whether the goal is found with q: there, or at an open node one step on too
 --   goal_noted   the notes, with the steps from q to the goal if it is found so
 use Rattle.std.specs.Prelude.{◌≡◌, ℕ, ◌<◌, Bool, false, cond, not, ◌||◌, Some, None, Option, List, ◌==◌, slice_set, is_some}
@@ -23,11 +23,6 @@ Closed d f t set = (q : ℕ) → q < d.nodes → set q ≡ not (along d f q t)
 -- The lowest node that is not closed and to which an arc with room leads from q, or none.
 abbrev pub way_on : Digraph → (ℕ → ℕ → Bool) → (ℕ → Bool) → ℕ → Option ℕ
 way_on d f closed q = first (fresh closed (along d f q)) 0 d.nodes
-
--- Without a goal a search never leaves off.
-abbrev pub leaves_off : Option ℕ → (ℕ → Bool) → ℕ → Bool
-leaves_off None closed q = false
-leaves_off (Some t) closed q = (q == t) || not (closed q)
 
 -- Without a goal nothing is found; `on` is the way on from q.
 abbrev pub goal_from : Option ℕ → (ℕ → Bool) → Option ℕ → ℕ → Bool

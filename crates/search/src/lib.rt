@@ -1,7 +1,7 @@
 // The one search: breadth-first over what a flow leaves of a plan. It seeks a path to a goal,
 // leaving off the moment the goal is known to be reached, or, without a goal, marks all that is
-// reached. Three questions stay apart: which arc comes next, whether its node is marked, and
-// whether the flow leaves room on it.
+// reached. Three questions stay apart: which arc comes next to a node that is not marked, whether the flow
+// leaves room on it, and whether an arc of the flow leads back.
 #![tactic(auto)]
 
 ghost use Rattle.std.specs.Prelude.{◌≡◌, ℕ, ◌<◌, true, false, IfSome, MatchOption};

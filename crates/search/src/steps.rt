@@ -13,7 +13,7 @@ use rows::flow::Arcs;
 use rows::marks::Marks;
 
 // Whether the flow leaves room on the arc from p to q.
-pub(crate) fn has_room(flow: &Arcs<'_>, p: u16, q: u16) -> bool
+fn has_room(flow: &Arcs<'_>, p: u16, q: u16) -> bool
     ensures { result ≡ not (carried flow.now p q) }
 {
     !flow.carries(p, q)

@@ -16,7 +16,8 @@ const ROW_WORDS: usize = 8;
 // Writes 0 into the rows of so many heads.
 fn wipe_rows(words: &mut [u64], heads: u16)
     requires { row_words * heads ≤ length words.old }
-    ensures { words.new ≡ replicate (row_words * heads) 0 ++ drop (row_words * heads) words.old }
+    ensures words { words.new ≡ replicate (row_words * heads) 0 ++ drop (row_words * heads) words.old }
+    ensures rest { drop (row_words * heads) words.new ≡ drop (row_words * heads) words.old }
 {
     words[..ROW_WORDS * heads as usize].fill(0);
 }
@@ -38,6 +39,7 @@ impl<'a> Arcs<'a> {
         requires { heads ≤ set_limit }
         ensures arcs { carried self.new ≡ (λ x y. false) }
         ensures heads { self.new.heads ≡ heads }
+        ensures rest { drop (row_words * heads) self.new.words.now ≡ drop (row_words * heads) self.old.words.now }
         ensures same_reference { self.new.words.ghost_name ≡ self.old.words.ghost_name }
     {
         wipe_rows(self.words, heads);

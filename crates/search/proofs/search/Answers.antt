@@ -5,8 +5,8 @@ use Rattle.graph.proofs.Firsts.{Found}
 use Rattle.rows.specs.Flow.{carried}
 use Rattle.rows.specs.Marks.{marked, fresh}
 use Rattle.search.specs.Steps.{along, back}
-use Rattle.search.specs.Goals.{Closed, leaves_off}
-use Rattle.search.proofs.States.{State, Nobody, nowhere, unmarked, begun, ended, missed}
+use Rattle.search.specs.Goals.{Closed}
+use Rattle.search.proofs.States.{leaves_off, State, Nobody, nowhere, unmarked, begun, ended, missed}
 use Rattle.search.proofs.Finds.{goal_missed, no_goal, passed_by, found_on}
 use Rattle.search.proofs.Fresh.{along_step}
 use Rattle.search.proofs.Turns.{Turn, back_all, found, has_room, by_along, by_back}

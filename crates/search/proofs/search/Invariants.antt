@@ -5,8 +5,7 @@ use Rattle.std.proofs.Common.{◌≡◌, ◌+◌, ◌-◌, ◌≤◌, false, map
 use Rattle.graph.specs.Graph.{node_limit}
 use Rattle.rows.specs.Flow.{carried}
 use Rattle.rows.specs.Marks.{marked}
-use Rattle.search.specs.Goals.{leaves_off}
-use Rattle.search.proofs.States.{State, Nobody, unmarked}
+use Rattle.search.proofs.States.{leaves_off, State, Nobody, unmarked}
 use Rattle.search.proofs.Turns.{Turn}
 use Rattle.search.proofs.search.Given as goal
 
