@@ -1,17 +1,16 @@
 -- What a search found is a path among the nodes, and pushing along it adds one.
 --
---   inside        a walk of residual steps stays among the nodes
 --   read_nodes    what is read back from the notes are heads of the arcs
 --   read_held     after a push along them the memory holds the run with a unit more
 --   value_most    a flow's value is at most the number of nodes
-use Rattle.std.proofs.Common.{◌≡◌, ℕ, ◌<◌, ◌≤◌, Bool, true, List, [], ◌∷◌, reverse, All, subst, ◌∙◌, arith}
+use Rattle.std.proofs.Common.{◌≡◌, ℕ, ◌<◌, ◌≤◌, Bool, List, reverse, All, subst, ◌∙◌, arith}
 use Rattle.graph.specs.Graph.{node_limit}
-use Rattle.std.proofs.lemmas.List.Elements.{All-nil, All-cons}
 use Rattle.graph.proofs.Counts.{count_most}
-use Rattle.flows.specs.Routes.{Walk}
 use Rattle.flows.specs.Flow.{Digraph, Sound, Flow, residual, pushed}
 use Rattle.flows.proofs.Largest.{residual_ranged}
+use Rattle.flows.proofs.Routes.{walk_inside}
 use Rattle.flows.proofs.Push.{push_adds_one_lem}
+use Rattle.flows.proofs.Ends.{pushed_none_out, pushed_none_in}
 use Rattle.augment.specs.Trails.{Trail, walk_back, pushed_back}
 use Rattle.augment.proofs.Trails.{read_reversed, all_reverse}
 use Rattle.augment.proofs.PushBacks.{pushed_is_back}
@@ -19,25 +18,19 @@ use Rattle.rows.specs.Flow.{carried}
 use Rattle.rows.specs.declared.flow.Arcs.{Arcs}
 use Rattle.connectivity.specs.declared.run.Searching.{Searching}
 use Rattle.connectivity.specs.Runs.{Held, grown}
-use Rattle.connectivity.proofs.Ends.{pushed_none_out, pushed_none_in}
 
 -- A unit leaves s for each node at most.
 pub value_most : (d : Digraph) (s t : ℕ) (f : ℕ → ℕ → Bool) (v : ℕ) → Flow d s t f v → v ≤ d.nodes
 value_most d s t f v fl = omega (arith, fl.value, count_most (λ q. f s q) d.nodes)
-
--- Steps that stay below n make walks that do.
-inside : (r : ℕ → ℕ → Bool) (n : ℕ) → ((p q : ℕ) → r p q ≡ true → q < n) → (a b : ℕ) (xs : List ℕ) → a < n → Walk r a b xs → All (λ x. x < n) xs
-inside r n stays a b [] h w = absurd w
-inside r n stays a b (x ∷ []) h w = All-cons (λ z. z < n) x [] (rw w.0 h) (All-nil (λ z. z < n))
-inside r n stays a b (x ∷ (y ∷ xs)) h w =
-    All-cons (λ z. z < n) x (y ∷ xs) (rw w.0 h) (inside r n stays y b (y ∷ xs) (stays x y w.1) w.2)
 
 -- A run and what the memory holds of it, and a trail from end to end that was noted.
 module _ (d : Digraph) (run : Searching) (arcs : Arcs) (small : d.nodes ≤ node_limit) (sound : Sound d) (held : Held d run arcs) (hs : run.from < d.nodes)
     (before : List ℕ) (trail : Trail (residual d (carried arcs)) run.from run.to before) where
   -- The nodes of the trail are among the nodes.
   trail_nodes : All (λ x. x < d.nodes) trail.nodes
-  trail_nodes = inside (residual d (carried arcs)) d.nodes (λ p q e. (residual_ranged d (carried arcs) sound held.flow.along p q e).1) run.from run.to trail.nodes hs trail.route.walk
+  trail_nodes =
+      walk_inside (residual d (carried arcs)) d.nodes (λ p q e. (residual_ranged d (carried arcs) sound held.flow.along p q e).1)
+      run.from run.to trail.nodes hs trail.route.walk
 
   -- So they are numbers that the notes have a place for.
   trail_small : All (λ x. x < node_limit) trail.nodes

@@ -1,27 +1,18 @@
 -- What the lent memory holds while a run searches, and once it is finished.
 --
---   NoneInto, NoneOutOf   no arc leads to a node; none leads out of it
 --   Held       a flow of the run's value among the nodes of its plan, from its first end to the other
 --   Largest    a flow from end to end that no residual path leads on from
 --   grown      a run with a unit more
 --   PushedOn   what a push leaves: one unit more, or the finished run
 --   EndedAt    a push that gives the finished run has come to a value
-use Rattle.std.specs.Prelude.{◌≡◌, ℕ, ◌+◌, Bool, false}
-use Rattle.flows.specs.Flow.{Digraph, Flow, residual_side}
+use Rattle.std.specs.Prelude.{◌≡◌, ℕ, ◌+◌, false}
+use Rattle.flows.specs.Flow.{Digraph, Flow, NoneInto, NoneOutOf, residual_side}
 use Rattle.rows.specs.Flow.{carried}
 use Rattle.rows.specs.declared.flow.Arcs.{Arcs}
 use Rattle.connectivity.specs.declared.run.Searching.{Searching}
 use Rattle.connectivity.specs.declared.run.Finished.{Finished}
 use Rattle.std.specs.declared.ops.ControlFlow.{ControlFlow}
 use Rattle.std.specs.declared.ops.ControlFlow.TheVariants.{Continue, Break}
-
--- No arc of a set leads to a.
-abbrev pub NoneInto : (ℕ → ℕ → Bool) → ℕ → Type 0
-NoneInto f a = (q : ℕ) → f q a ≡ false
-
--- No arc of a set leads out of t.
-abbrev pub NoneOutOf : (ℕ → ℕ → Bool) → ℕ → Type 0
-NoneOutOf f t = (q : ℕ) → f t q ≡ false
 
 -- The memory holds a flow of the value of a searching run, which begins at the run's first end and ends at
 -- the other. The heads of its arcs are the nodes.

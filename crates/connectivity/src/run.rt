@@ -6,12 +6,12 @@
 // for reading only.
 ghost use Rattle.std.specs.Prelude.{◌≡◌, ℕ, ◌+◌, ◌^◌, ◌<◌, ◌≤◌, true, false, IsTrue, ◌↔◌, length};
 ghost use Rattle.flows.specs.Lists.{in_front};
-ghost use Rattle.flows.specs.Flow.{residual, residual_side};
+ghost use Rattle.flows.specs.Flow.{NoneOutOf, residual, residual_side};
 ghost use Rattle.augment.specs.Trails.{Trail};
 ghost use Rattle.rows.specs.Flow.{carried};
 ghost use Rattle.rows.specs.Marks.{marked};
 ghost use Rattle.search.specs.Goals.{Far};
-ghost use Rattle.connectivity.specs.Runs.{NoneOutOf, Held, Largest, grown, PushedOn, EndedAt};
+ghost use Rattle.connectivity.specs.Runs.{Held, Largest, grown, PushedOn, EndedAt};
 
 use crate::work::Scratch;
 use augment::augment;

@@ -5,6 +5,7 @@ use Rattle.std.proofs.lemmas.Bool.{both_ways, cases_eq}
 use Rattle.flows.specs.Lists.{among}
 use Rattle.flows.specs.Routes.{Walk, Apart, Route}
 use Rattle.flows.proofs.Lists.{never_true, any_nil, among_head, among_tail, among_cases}
+use Rattle.flows.proofs.Routes.{walk_last}
 use Rattle.cuts.specs.RouteRules.{inner, SharingByInner}
 
 -- Of two vertices and more the inner ones are all but the last of those after the first.
@@ -14,19 +15,13 @@ inner_is x y ys w =
     ap (λ (k : ℕ). among (take k (y ∷ ys)) w) two
 
 module _ (r : ℕ → ℕ → Bool) (b : ℕ) where
-  -- The last vertex of a walk stands on it.
-  last_among : (a : ℕ) (xs : List ℕ) → Walk r a b xs → among xs b ≡ true
-  last_among a [] w = absurd w
-  last_among a (x ∷ []) w = ap (among (x ∷ [])) (sym w.1) ∙ among_head x []
-  last_among a (x ∷ (y ∷ xs)) w = among_tail x (y ∷ xs) b (last_among y (y ∷ xs) w.2)
-
   -- All but the last vertex of a walk stand on it and are not the last.
   front_on : (a y : ℕ) (ys : List ℕ) → Walk r a b (y ∷ ys) → Apart (y ∷ ys) → (w : ℕ) → among (take (length ys) (y ∷ ys)) w ≡ true
       → (among (y ∷ ys) w ≡ true) × (w ≡ b → ⊥)
   front_on a y [] k o w m = absurd (both_ways _ (any_nil (eqb w)) m)
   front_on a y (z ∷ zs) k o w m =
       ⊎_elim
-      (λ e. (ap (among (y ∷ (z ∷ zs))) e ∙ among_head y (z ∷ zs), λ q. both_ways _ o.0 (ap (among (z ∷ zs)) (sym e ∙ q) ∙ last_among z (z ∷ zs) k.2)))
+      (λ e. (ap (among (y ∷ (z ∷ zs))) e ∙ among_head y (z ∷ zs), λ q. both_ways _ o.0 (ap (among (z ∷ zs)) (sym e ∙ q) ∙ walk_last r z b (z ∷ zs) k.2)))
       (λ t. let f = front_on z z zs k.2 o.1 w t in (among_tail y (z ∷ zs) w f.0, f.1))
       (among_cases y (take (length zs) (z ∷ zs)) w m)
 

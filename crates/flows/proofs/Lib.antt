@@ -8,3 +8,5 @@ pub mod Arcs
 pub mod Push
 pub mod Most
 pub mod Peel
+pub mod Ends
+pub mod Outward

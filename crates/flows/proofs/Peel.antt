@@ -1,5 +1,9 @@
 -- A flow peels into routes that share no arc: while its value is not 0 its own arcs lead from
 -- s to t, and without the arcs of such a route it is a flow of value one less.
+--
+--   without_one, without_more   a route of one node has no arc; a longer one its first arc and those of the rest
+--   within, taken               what is left without a route's arcs are arcs of the flow, and a flow of value one less
+--   flow_peels_lem              as many routes as the value
 use Rattle.std.proofs.Common.{◌≡◌, ℕ, zero, suc, ◌+◌, ◌*◌, ◌<◌, Bool, true, false, not, ◌&&◌, ◌||◌, eqb, List, [], ◌∷◌, sym, refl, ap, ◌∙◌, subst, inl, inr, arith}
 use mathlib.Core.Path.{fun_ext}
 use Rattle.std.proofs.lemmas.List.Elements.{All-nil, All-cons, All-weaker}
@@ -7,7 +11,7 @@ use Rattle.std.proofs.lemmas.Bool.{cases_eq, cases_Bool, both_ways, eq-eqb, ne_e
 use Rattle.std.proofs.lemmas.Bool.Decides.{nat_tests}
 use Rattle.flows.specs.Reach.{reaches}
 use Rattle.flows.specs.Routes.{Walk, Apart, Route, goes}
-use Rattle.flows.specs.Flow.{Digraph, Sound, Flow, out, into, ArcDisjoint, Peeled, FlowPeels}
+use Rattle.flows.specs.Flow.{Digraph, Sound, Flow, out, into, without, ArcDisjoint, Peeled, FlowPeels}
 use Rattle.flows.proofs.Lists.{never_true}
 use Rattle.flows.proofs.Sums.{bit, total₂_same, total₂_zero, pairs_total}
 use Rattle.flows.proofs.Reached.{reached_self, reached_step}
@@ -15,11 +19,8 @@ use Rattle.flows.proofs.Routes.{reached_route, walk_off, walk_more, walk_goes}
 use Rattle.flows.proofs.Balance.{flow_balance_lem}
 use Rattle.flows.proofs.Arcs.{out_more, into_more, lacking, lacking_more, more_keeps}
 
--- f without the arcs of a route.
-abbrev without : (ℕ → ℕ → Bool) → List ℕ → (ℕ → ℕ → Bool)
-without f xs = λ p q. f p q && not (goes xs p q)
-
-without_one : (f : ℕ → ℕ → Bool) (x : ℕ) → without f (x ∷ []) ≡ f
+-- One node alone has no arc.
+pub without_one : (f : ℕ → ℕ → Bool) (x : ℕ) → without f (x ∷ []) ≡ f
 unfolding goes
 without_one f x = fun_ext (λ p. fun_ext (λ q. and_true (f p q)))
   where
@@ -27,7 +28,8 @@ without_one f x = fun_ext (λ p. fun_ext (λ q. and_true (f p q)))
     and_true true = refl
     and_true false = refl
 
-without_more : (f : ℕ → ℕ → Bool) (x y : ℕ) (xs : List ℕ) → without f (x ∷ (y ∷ xs)) ≡ without (lacking f x y) (y ∷ xs)
+-- Without the first arc of a route, and then without those of the rest.
+pub without_more : (f : ℕ → ℕ → Bool) (x y : ℕ) (xs : List ℕ) → without f (x ∷ (y ∷ xs)) ≡ without (lacking f x y) (y ∷ xs)
 unfolding goes
 without_more f x y xs = fun_ext (λ p. fun_ext (λ q. both (f p q) (eqb x p && eqb y q) (eqb p x && eqb q y) (goes (y ∷ xs) p q) (turn p q)))
   where
@@ -92,7 +94,8 @@ module _ (d : Digraph) (s t : ℕ) (sound : Sound d) (hs : s < d.nodes) (st : s 
         value = (let e = rw (eq-eqb s s refl, ne_eqb s t st) at (l s hs st) in omega arith);
       }
 
-  within : (f : ℕ → ℕ → Bool) (xs : List ℕ) (p q : ℕ) → without f xs p q ≡ true → f p q ≡ true
+  -- What is left of a flow is of it.
+  pub within : (f : ℕ → ℕ → Bool) (xs : List ℕ) (p q : ℕ) → without f xs p q ≡ true → f p q ≡ true
   within f xs p q e = (and_parts (f p q) _ e).0
 
   -- One route before the routes of what is left.
@@ -112,12 +115,18 @@ module _ (d : Digraph) (s t : ℕ) (sound : Sound d) (hs : s < d.nodes) (st : s 
       clear : (ys : List ℕ) → Walk (without f xs) s t ys → ArcDisjoint xs ys
       clear ys k p q e = never_true _ (λ h. both_ways (goes xs p q) (not-true _ (and_parts (f p q) _ (walk_goes (without f xs) s t ys k p q h)).1) e)
 
+  -- Without the arcs of a route along it a flow is one of value one less.
+  pub taken : (f : ℕ → ℕ → Bool) (v : ℕ) (xs : List ℕ) → Flow d s t f (suc v) → Route f s t xs → Flow d s t (without f xs) v
+  taken f v xs fl w =
+      smaller f (without f xs) v fl (within f xs)
+      (level_without d.nodes s t (suc v) s xs f (λ p q e. sound.bounded p q (fl.along p q e)) (level_start f (suc v) fl) w.walk w.apart)
+
+  -- Routes are taken out one after another.
   peel : (v : ℕ) (f : ℕ → ℕ → Bool) → Flow d s t f v → Peeled f s t v
   peel zero f fl = record { routes = []; many = refl; each = All-nil (Route f s t); disjoint = tt }
   peel (suc v) f fl =
       let w = reached_route d.nodes f s hs t (leads f v fl) in
-      let l = level_without d.nodes s t (suc v) s w.0 f (λ p q e. sound.bounded p q (fl.along p q e)) (level_start f (suc v) fl) w.1.walk w.1.apart in
-      join f v w.0 w.1 (peel v (without f w.0) (smaller f (without f w.0) v fl (within f w.0) l))
+      join f v w.0 w.1 (peel v (without f w.0) (taken f v w.0 fl w.1))
 
 pub flow_peels_lem : FlowPeels
 flow_peels_lem d s t f v sound hs st fl = peel d s t sound hs st v f fl

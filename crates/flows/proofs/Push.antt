@@ -84,11 +84,12 @@ residual_free d f x y e =
 residual_same : (d : Digraph) (f h : ℕ → ℕ → Bool) (p q : ℕ) → h p q ≡ f p q → h q p ≡ f q p → residual d h p q ≡ residual d f p q
 residual_same d f h p q e i = ap₂ (λ (a b : Bool). a || (d.arc p q && not b)) i e
 
-pushed_one : (f : ℕ → ℕ → Bool) (x : ℕ) → pushed f (x ∷ []) ≡ f
+-- A list of one node pushes nothing, a longer one its first step first.
+pub pushed_one : (f : ℕ → ℕ → Bool) (x : ℕ) → pushed f (x ∷ []) ≡ f
 unfolding pushed
 pushed_one f x = refl
 
-pushed_more : (f : ℕ → ℕ → Bool) (x y : ℕ) (xs : List ℕ) → pushed f (x ∷ (y ∷ xs)) ≡ pushed (stepped f x y) (y ∷ xs)
+pub pushed_more : (f : ℕ → ℕ → Bool) (x y : ℕ) (xs : List ℕ) → pushed f (x ∷ (y ∷ xs)) ≡ pushed (stepped f x y) (y ∷ xs)
 unfolding pushed
 pushed_more f x y xs = refl
 

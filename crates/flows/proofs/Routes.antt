@@ -1,5 +1,6 @@
 -- Walks and routes: how they are made longer, cut short and read; reached is where a route leads.
-use Rattle.std.proofs.Common.{◌≡◌, ℕ, ◌<◌, Bool, true, false, ◌&&◌, eqb, List, [], ◌∷◌, ◌++◌, sym, refl, ap, ◌∙◌, ap₂, inl, inr}
+use Rattle.std.proofs.Common.{◌≡◌, ℕ, ◌<◌, Bool, true, false, ◌&&◌, eqb, List, [], ◌∷◌, ◌++◌, All, sym, refl, ap, ◌∙◌, ap₂, inl, inr}
+use Rattle.std.proofs.lemmas.List.Elements.{All-nil, All-cons}
 use Rattle.std.proofs.lemmas.Bool.{cases_Bool, both_ways, eqb-true, ne_eqb, or_cases, or_from, and_parts}
 use Rattle.flows.specs.Lists.{among}
 use Rattle.flows.specs.Reach.{reaches}
@@ -40,6 +41,20 @@ pub walk_more : (r z : ℕ → ℕ → Bool) (a b : ℕ) (xs : List ℕ) → ((p
 walk_more r z a b [] e w = w
 walk_more r z a b (x ∷ []) e w = w
 walk_more r z a b (x ∷ (y ∷ xs)) e w = (w.0, e x y w.1, walk_more r z y b (y ∷ xs) e w.2)
+
+-- Where a walk leads stands on it.
+pub walk_last : (r : ℕ → ℕ → Bool) (a b : ℕ) (xs : List ℕ) → Walk r a b xs → among xs b ≡ true
+walk_last r a b [] w = absurd w
+walk_last r a b (x ∷ []) w = rw (sym w.1) (among_head x [])
+walk_last r a b (x ∷ (y ∷ xs)) w = among_tail x (y ∷ xs) b (walk_last r y b (y ∷ xs) w.2)
+
+-- Steps that lead below n make walks that stay below n.
+pub walk_inside : (r : ℕ → ℕ → Bool) (n : ℕ) → ((p q : ℕ) → r p q ≡ true → q < n) → (a b : ℕ) (xs : List ℕ) → a < n → Walk r a b xs
+    → All (λ x. x < n) xs
+walk_inside r n stays a b [] h w = absurd w
+walk_inside r n stays a b (x ∷ []) h w = All-cons (λ z. z < n) x [] (rw w.0 h) (All-nil (λ z. z < n))
+walk_inside r n stays a b (x ∷ (y ∷ xs)) h w =
+    All-cons (λ z. z < n) x (y ∷ xs) (rw w.0 h) (walk_inside r n stays y b (y ∷ xs) (stays x y w.1) w.2)
 
 -- A walk goes only where there is a step.
 pub walk_goes : (r : ℕ → ℕ → Bool) (a b : ℕ) (xs : List ℕ) → Walk r a b xs → (p q : ℕ) → goes xs p q ≡ true → r p q ≡ true

@@ -5,10 +5,13 @@
 --   out, into                                          how many arcs of a set go out of a node, and into it
 --   Flow                                               a unit flow from s to t
 --   leaving, entering, Between                         the arcs out of a set of nodes, and into it; a set with s and without t
+--   NoneInto, NoneOutOf                                no arc of a set leads to a node; none leads out of it
+--   back                                               the steps back along a set of arcs
 --   residual, residual_side                            where a flow can be changed; what s reaches by such steps
 --   stepped, pushed                                    a flow after a step, and after a path of them
 --   FlowBalance, FlowBound, LargestFlow, PushAddsOne   what holds of flows
 --   Most, MostExists                                   a flow that nothing leads on from; there is one
+--   without                                            a set of arcs without those of a route
 --   ArcDisjoint, AllDisjoint                           routes that share no arc
 --   Peeled, FlowPeels                                  so many routes of a flow; there are as many as its value
 use Rattle.std.specs.Prelude.{◌≡◌, ℕ, zero, suc, ◌+◌, ◌<◌, ◌≤◌, Bool, true, false, cond, not, ◌&&◌, ◌||◌, List, [], ◌∷◌, length, All, ◌==◌, ◌≢◌}
@@ -53,6 +56,18 @@ leaving n f u = pairs_passing (λ p q. u p && (not (u q) && f p q)) n
 
 abbrev pub entering : ℕ → (ℕ → ℕ → Bool) → (ℕ → Bool) → ℕ
 entering n f u = pairs_passing (λ p q. u p && (not (u q) && f q p)) n
+
+-- No arc of a set leads to s.
+abbrev pub NoneInto : (ℕ → ℕ → Bool) → ℕ → Type 0
+NoneInto f s = (q : ℕ) → f q s ≡ false
+
+-- No arc of a set leads out of t.
+abbrev pub NoneOutOf : (ℕ → ℕ → Bool) → ℕ → Type 0
+NoneOutOf f t = (q : ℕ) → f t q ≡ false
+
+-- The steps back along the arcs of a set.
+abbrev pub back : (ℕ → ℕ → Bool) → ℕ → ℕ → Bool
+back f p q = f q p
 
 -- Where a flow can still be changed: back along an arc of it, or along an arc that is free.
 abbrev pub residual : Digraph → (ℕ → ℕ → Bool) → ℕ → ℕ → Bool
@@ -118,6 +133,10 @@ pub record Most (d : Digraph) (s t : ℕ) : Type 0 where
 
 abbrev pub MostExists : Type 0
 MostExists = (d : Digraph) (s t : ℕ) → Sound d → s < d.nodes → (s ≢ t) → Most d s t
+
+-- The arcs of a set but those that a route goes along.
+abbrev pub without : (ℕ → ℕ → Bool) → List ℕ → (ℕ → ℕ → Bool)
+without f xs = λ p q. f p q && not (goes xs p q)
 
 -- Two routes that share no arc.
 abbrev pub ArcDisjoint : List ℕ → List ℕ → Type 0

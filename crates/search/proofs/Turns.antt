@@ -8,11 +8,11 @@
 use Rattle.std.proofs.Common.{◌≡◌, ℕ, ◌+◌, ◌<◌, ◌≤◌, Bool, true, false, not, ◌&&◌, ◌||◌, eqb, ◌⊎◌, List, [], ◌∷◌, ◌++◌, length, set, IfSome, Option, sym, refl, ap, ◌∙◌, subst, inl, inr, ⊎_elim, arith, length-append, MatchOption}
 use Rattle.std.proofs.lemmas.Bool.{cases_lt, cases_eq, or_cases, or_left}
 use Rattle.graph.proofs.Firsts.{Found}
-use Rattle.flows.specs.Flow.{Digraph, residual}
+use Rattle.flows.specs.Flow.{Digraph, back, residual}
 use Rattle.flows.proofs.Lists.{among_head, among_tail, among_cases}
 use Rattle.search.specs.Goals.{Closed, way_on, goal_from, goal_noted}
 use Rattle.rows.specs.Marks.{fresh}
-use Rattle.search.specs.Steps.{along, back}
+use Rattle.search.specs.Steps.{along}
 use Rattle.augment.specs.Trails.{Trail}
 use Rattle.rows.proofs.Fresh.{fresh_parts, fresh_done}
 use Rattle.search.proofs.Fresh.{along_step}

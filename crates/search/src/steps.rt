@@ -3,10 +3,11 @@
 // plan and the flow's room, the second the flow's rows. Each leaps, which a `for` would not.
 ghost use Rattle.std.specs.Prelude.{◌≡◌, ◌+◌, ◌-◌, ◌<◌, ◌≤◌, not};
 ghost use Rattle.graph.specs.Graph.{first};
+ghost use Rattle.flows.specs.Flow.{back};
 ghost use Rattle.rows.specs.Flow.{carried};
 ghost use Rattle.rows.specs.Layout.{set_limit};
 ghost use Rattle.rows.specs.Marks.{marked, fresh};
-ghost use Rattle.search.specs.Steps.{along, back};
+ghost use Rattle.search.specs.Steps.{along};
 
 use plan::Plan;
 use rows::flow::Arcs;

@@ -2,9 +2,10 @@ use Rattle.std.proofs.Common.{◌≡◌, ℕ, ◌+◌, ◌<◌, Bool, false, IfS
 use Rattle.std.proofs.lemmas.List.{length-map}
 use Rattle.std.proofs.lemmas.Bool.{or_left, eqb-true}
 use Rattle.graph.proofs.Firsts.{Found}
+use Rattle.flows.specs.Flow.{back}
 use Rattle.rows.specs.Flow.{carried}
 use Rattle.rows.specs.Marks.{marked, fresh}
-use Rattle.search.specs.Steps.{along, back}
+use Rattle.search.specs.Steps.{along}
 use Rattle.search.specs.Goals.{Closed}
 use Rattle.search.proofs.States.{leaves_off, State, Nobody, nowhere, unmarked, begun, ended, missed}
 use Rattle.search.proofs.Finds.{goal_missed, no_goal, passed_by, found_on}

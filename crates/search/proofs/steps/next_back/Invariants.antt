@@ -1,8 +1,8 @@
 -- Each number passed was marked, or the flow does not lead from it to p.
 use Rattle.std.proofs.Common.{◌-◌}
+use Rattle.flows.specs.Flow.{back}
 use Rattle.rows.specs.Flow.{carried}
 use Rattle.rows.specs.Marks.{marked, fresh}
-use Rattle.search.specs.Steps.{back}
 use Rattle.graph.proofs.Leaps.{Scan}
 use Rattle.search.proofs.steps.next_back.Given as goal
 
