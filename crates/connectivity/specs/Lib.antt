@@ -1,3 +1,3 @@
-pub mod Work
+pub mod Needed
 pub mod Runs
 pub mod Asking

@@ -8,4 +8,4 @@ mod run;
 mod work;
 
 pub use pair::{edge_cut_between, vertex_cut_between};
-pub use work::{CELLS, NUMBERS, Sizes, WORDS, Work};
+pub use work::{CELLS, NUMBERS, WORDS};

@@ -1,42 +1,51 @@
-// The work memory of a question: lent by the caller, of fixed sizes whatever the map. Its
-// content after an accepted question is free.
+// How much memory the questions need, and how the work memory of a workspace is used. Its content
+// after an accepted question is free.
 ghost use Rattle.std.specs.Prelude.{◌≡◌, ◌≤◌, length};
 ghost use Rattle.graph.specs.Graph.{node_limit};
-ghost use Rattle.connectivity.specs.Work.{short};
+ghost use Rattle.connectivity.specs.Needed.{edges_needed, vertices_needed};
 
 use augment::Notes;
+use model::Sizes;
 use ring::Step;
 use search::Slots;
 
-// How many words, numbers, and cells of each kind of item that waits, a question needs.
+// How many words, numbers, and cells of each kind of item that waits, a question needs, whatever the
+// map: words for a flow, numbers for the way back, cells for the nodes and steps that wait in a search.
 pub const WORDS: usize = 4096;
 
 pub const NUMBERS: usize = 2048;
 
 pub const CELLS: usize = 1024;
 
-// The memory: words for a flow, numbers for the way back, cells for the two kinds of items that
-// wait in a search, nodes and steps.
-#[derive(Drop)]
-pub struct Work<'w, 'm, 'n, 's> {
-    pub words: &'w mut [u64],
-    pub numbers: &'m mut [u16],
-    pub nodes: &'n mut [u16],
-    pub steps: &'s mut [Step],
+// The work memory alone.
+const WORK: Sizes = Sizes {
+    words: WORDS,
+    numbers: NUMBERS,
+    nodes: CELLS,
+    steps: CELLS,
+    edges: 0,
+    vertices: 0,
+    runs: 0,
+    routes: 0,
+};
+
+// What an edge question needs on a map of n vertices.
+pub(crate) fn edges_needed(n: u16) -> Sizes
+    ensures { result ≡ edges_needed n }
+{
+    Sizes {
+        edges: n.saturating_sub(1) as usize,
+        ..WORK
+    }
 }
 
-impl<'w, 'm, 'n, 's> Work<'w, 'm, 'n, 's> {
-    // What is lent, with a buffer of so many items for a cut.
-    pub(crate) fn sizes(&self, cut: usize) -> Sizes
-        ensures { result ≡ record { words = length self.now.words.now; numbers = length self.now.numbers.now; nodes = length self.now.nodes.now; steps = length self.now.steps.now; cut = cut } }
-    {
-        Sizes {
-            words: self.words.len(),
-            numbers: self.numbers.len(),
-            nodes: self.nodes.len(),
-            steps: self.steps.len(),
-            cut,
-        }
+// What a vertex question needs.
+pub(crate) fn vertices_needed(n: u16) -> Sizes
+    ensures { result ≡ vertices_needed n }
+{
+    Sizes {
+        vertices: n.saturating_sub(1) as usize,
+        ..WORK
     }
 }
 
@@ -65,28 +74,5 @@ impl<'m, 'n, 's> Scratch<'m, 'n, 's> {
             nodes: Slots::over(nodes),
             steps: Slots::over(steps),
         }
-    }
-}
-
-// What a question is lent, by its lengths: the work memory, and the buffer for a cut.
-#[derive(Clone, Copy)]
-pub struct Sizes {
-    pub words: usize,
-    pub numbers: usize,
-    pub nodes: usize,
-    pub steps: usize,
-    pub cut: usize,
-}
-
-impl Sizes {
-    // Whether that is too little for a map of n vertices, of which a cut has n - 1 items at most.
-    pub(crate) fn is_short(self, n: u16) -> bool
-        ensures { result ≡ short self n }
-    {
-        self.words < WORDS
-            || self.numbers < NUMBERS
-            || self.nodes < CELLS
-            || self.steps < CELLS
-            || self.cut < n.saturating_sub(1) as usize
     }
 }

@@ -33,6 +33,13 @@ impl<M> Split<M> {
         Split { map, a: 0, b: 0 }
     }
 
+    // The two ends.
+    pub fn ends(&self) -> (Vertex, Vertex)
+        ensures { result ≡ (self.now.a, self.now.b) }
+    {
+        (self.a, self.b)
+    }
+
     // Makes a and b the ends.
     pub fn set_ends(&mut self, a: Vertex, b: Vertex)
         ensures { self.new ≡ record { map = self.old.map; a = a; b = b } }
