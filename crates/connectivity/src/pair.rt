@@ -60,13 +60,13 @@ fn settle<P: CutPlan>(
     steps: &mut [Step],
     cut: &mut [P::Item],
 ) -> u16
-    requires asked { P.CutPlan.asked plan.old a b }
+    requires asked { P.asked plan.old a b }
     requires words { work_sizes.words ≤ length words.old }
     requires numbers { work_sizes.numbers ≤ length numbers.old }
     requires cells { (work_sizes.nodes ≤ length nodes.old) × (work_sizes.steps ≤ length steps.old) }
-    requires room { length (P.CutPlan.nearest plan.old a b) ≤ length cut.old }
-    ensures value { result ≡ P.CutPlan.valued plan.old a b }
-    ensures items { cut.new ≡ in_front (P.CutPlan.nearest plan.old a b) cut.old }
+    requires room { length (P.nearest plan.old a b) ≤ length cut.old }
+    ensures value { result ≡ P.valued plan.old a b }
+    ensures items { cut.new ≡ in_front (P.nearest plan.old a b) cut.old }
     ensures same { plan.new ≡ plan.old }
 {
     let mut flow = Arcs::over(&mut words[0..WORDS]);

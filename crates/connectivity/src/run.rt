@@ -38,7 +38,7 @@ impl RunCount {
 
 // Whether every node of a plan is marked.
 fn marks_all<P: CutPlan>(plan: &mut P, marks: &Marks) -> bool
-    ensures all { IsTrue result ↔ ((q : ℕ) → q < (P.Plan.digraph plan.old).nodes → marked marks.now q ≡ true) }
+    ensures all { IsTrue result ↔ ((q : ℕ) → q < (P.digraph plan.old).nodes → marked marks.now q ≡ true) }
     ensures same { plan.new ≡ plan.old }
 {
     let n = plan.node_count();
@@ -76,7 +76,7 @@ impl Searching {
         ensures same { plan.new ≡ plan.old }
         ensures run { result ≡ record { from = from; to = to; value = 0 } }
         ensures none { carried flow.new ≡ (λ x y. false) }
-        ensures held { Held (P.Plan.digraph plan.old) result flow.new }
+        ensures held { Held (P.digraph plan.old) result flow.new }
     {
         count.begun += 1;
         flow.wipe(plan.node_count());
@@ -92,12 +92,12 @@ impl Searching {
         far: &Marks,
         scratch: &mut Scratch<'_, '_, '_>,
     ) -> bool
-        requires asked { P.CutPlan.asked plan.old self.now.from self.now.to }
-        requires far { Far (P.Plan.digraph plan.old) self.now.to (marked far.now) }
+        requires asked { P.asked plan.old self.now.from self.now.to }
+        requires far { Far (P.digraph plan.old) self.now.to (marked far.now) }
         requires ends { NoneOutOf (carried flow.now) self.now.to }
         ensures same { plan.new ≡ plan.old }
-        ensures noted { result ≡ true → Trail (residual (P.Plan.digraph plan.old) (carried flow.now)) self.now.from self.now.to scratch.new.notes.before.now }
-        ensures stuck { result ≡ false → residual_side (P.Plan.digraph plan.old) (carried flow.now) self.now.from self.now.to ≡ false }
+        ensures noted { result ≡ true → Trail (residual (P.digraph plan.old) (carried flow.now)) self.now.from self.now.to scratch.new.notes.before.now }
+        ensures stuck { result ≡ false → residual_side (P.digraph plan.old) (carried flow.now) self.now.from self.now.to ≡ false }
     {
         let closed = closed_to(flow, far, self.to);
         if marks_all(plan, &closed) {
@@ -124,13 +124,13 @@ impl Searching {
         far: &Marks,
         scratch: &mut Scratch<'_, '_, '_>,
     ) -> bool
-        requires asked { P.CutPlan.asked plan.old self.now.from self.now.to }
-        requires far { Far (P.Plan.digraph plan.old) self.now.to (marked far.now) }
-        requires flow { Held (P.Plan.digraph plan.old) self.now flow.old }
+        requires asked { P.asked plan.old self.now.from self.now.to }
+        requires far { Far (P.digraph plan.old) self.now.to (marked far.now) }
+        requires flow { Held (P.digraph plan.old) self.now flow.old }
         ensures same { plan.new ≡ plan.old }
-        ensures pushed { result ≡ true → Held (P.Plan.digraph plan.old) (grown self.now) flow.new }
+        ensures pushed { result ≡ true → Held (P.digraph plan.old) (grown self.now) flow.new }
         ensures kept { result ≡ false → flow.new ≡ flow.old }
-        ensures stuck { result ≡ false → residual_side (P.Plan.digraph plan.old) (carried flow.old) self.now.from self.now.to ≡ false }
+        ensures stuck { result ≡ false → residual_side (P.digraph plan.old) (carried flow.old) self.now.from self.now.to ≡ false }
     {
         if !self.seek(plan, flow, far, scratch) {
             return false;
@@ -147,12 +147,12 @@ impl Searching {
         far: &Marks,
         scratch: &mut Scratch<'_, '_, '_>,
     ) -> Pushed
-        requires asked { P.CutPlan.asked plan.old self.from self.to }
-        requires far { Far (P.Plan.digraph plan.old) self.to (marked far.now) }
-        requires flow { Held (P.Plan.digraph plan.old) self flow.old }
+        requires asked { P.asked plan.old self.from self.to }
+        requires far { Far (P.digraph plan.old) self.to (marked far.now) }
+        requires flow { Held (P.digraph plan.old) self flow.old }
         ensures same { plan.new ≡ plan.old }
-        ensures after { PushedOn (P.Plan.digraph plan.old) self result flow.new }
-        ensures value { EndedAt (P.CutPlan.valued plan.old self.from self.to) result }
+        ensures after { PushedOn (P.digraph plan.old) self result flow.new }
+        ensures value { EndedAt (P.valued plan.old self.from self.to) result }
     {
         let found = self.advance(plan, flow, far, scratch);
         let Searching { from, to, value } = self;
@@ -189,9 +189,9 @@ impl Finished {
         marks: &mut Marks,
         scratch: &mut Scratch<'_, '_, '_>,
     )
-        requires asked { P.CutPlan.asked plan.old self.now.from self.now.to }
+        requires asked { P.asked plan.old self.now.from self.now.to }
         ensures same { plan.new ≡ plan.old }
-        ensures side { (q : ℕ) → marked marks.new q ≡ residual_side (P.Plan.digraph plan.old) (carried flow.now) self.now.from q }
+        ensures side { (q : ℕ) → marked marks.new q ≡ residual_side (P.digraph plan.old) (carried flow.now) self.now.from q }
     {
         let near_end = self.from;
         search(
@@ -214,10 +214,10 @@ impl Finished {
         marks: &mut Marks,
         scratch: &mut Scratch<'_, '_, '_>,
     )
-        requires asked { P.CutPlan.asked plan.old self.now.from self.now.to }
-        requires largest { Largest (P.Plan.digraph plan.old) self.now flow.now }
+        requires asked { P.asked plan.old self.now.from self.now.to }
+        requires largest { Largest (P.digraph plan.old) self.now flow.now }
         ensures same { plan.new ≡ plan.old }
-        ensures side { P.CutPlan.crossing plan.old self.now.from (marked marks.new) ≡ P.CutPlan.nearest plan.old self.now.from self.now.to }
+        ensures side { P.crossing plan.old self.now.from (marked marks.new) ≡ P.nearest plan.old self.now.from self.now.to }
     {
         self.mark_side(plan, flow, marks, scratch);
     }
@@ -231,12 +231,12 @@ impl Finished {
         scratch: &mut Scratch<'_, '_, '_>,
         cut: &mut [P::Item],
     ) -> usize
-        requires asked { P.CutPlan.asked plan.old self.now.from self.now.to }
-        requires largest { Largest (P.Plan.digraph plan.old) self.now flow.now }
-        requires room { length (P.CutPlan.nearest plan.old self.now.from self.now.to) ≤ length cut.old }
+        requires asked { P.asked plan.old self.now.from self.now.to }
+        requires largest { Largest (P.digraph plan.old) self.now flow.now }
+        requires room { length (P.nearest plan.old self.now.from self.now.to) ≤ length cut.old }
         ensures same { plan.new ≡ plan.old }
-        ensures count { result ≡ length (P.CutPlan.nearest plan.old self.now.from self.now.to) }
-        ensures items { cut.new ≡ in_front (P.CutPlan.nearest plan.old self.now.from self.now.to) cut.old }
+        ensures count { result ≡ length (P.nearest plan.old self.now.from self.now.to) }
+        ensures items { cut.new ≡ in_front (P.nearest plan.old self.now.from self.now.to) cut.old }
     {
         let mut marks = Marks::none();
         self.sweep(plan, flow, &mut marks, scratch);
@@ -254,11 +254,11 @@ pub(crate) fn complete<P: CutPlan>(
     to: u16,
 ) -> Finished
     requires count { count.old.begun + 1 < 2 ^ 32 }
-    requires asked { P.CutPlan.asked plan.old from to }
+    requires asked { P.asked plan.old from to }
     ensures counted { count.new.begun ≡ count.old.begun + 1 }
     ensures same { plan.new ≡ plan.old }
-    ensures run { result ≡ record { from = from; to = to; value = P.CutPlan.valued plan.old from to } }
-    ensures largest { Largest (P.Plan.digraph plan.old) result flow.new }
+    ensures run { result ≡ record { from = from; to = to; value = P.valued plan.old from to } }
+    ensures largest { Largest (P.digraph plan.old) result flow.new }
 {
     let mut run = Searching::begin(count, plan, flow, from, to);
     let far = far_from(plan, to);
