@@ -1,7 +1,7 @@
 // Asking a planner for the nearest cut of a pair, and holding it to what it should be. The value
 // of a pair is the length of its cut; entries of the buffer past the cut keep their content.
 use claims::check;
-use connectivity::{CELLS, NUMBERS, WORDS, Work};
+use connectivity::{CELLS, NUMBERS, WORDS};
 use cuts::Edge;
 use model::{Call, Vertex};
 use ring::Step;
@@ -50,15 +50,16 @@ pub(crate) fn check_edges<S: Editable>(
     b: Vertex,
     cut: &[Edge],
 ) -> Result<(), Fail> {
-    let mut buffer = [NO_EDGE; 13];
-    let work = Work {
+    let mut workspace = Workspace {
         words: &mut [0; WORDS],
         numbers: &mut [0; NUMBERS],
         nodes: &mut [0; CELLS],
         steps: &mut [NO_STEP; CELLS],
+        edges: &mut [NO_EDGE; 13],
+        ..Workspace::none()
     };
-    let value = planner.edge_cut_between(a, b, work, &mut buffer)?;
-    check_cut(value, &buffer, cut, NO_EDGE)
+    let value = planner.edge_cut_between(a, b, &mut workspace)?;
+    check_cut(value, workspace.edges, cut, NO_EDGE)
 }
 
 // The nearest vertex cut of an unjoined pair is this one.
@@ -68,15 +69,40 @@ pub(crate) fn check_vertices<S: Editable>(
     b: Vertex,
     cut: &[Vertex],
 ) -> Result<(), Fail> {
-    let mut buffer = [NO_VERTEX; 13];
-    let work = Work {
+    let mut workspace = Workspace {
         words: &mut [0; WORDS],
         numbers: &mut [0; NUMBERS],
         nodes: &mut [0; CELLS],
         steps: &mut [NO_STEP; CELLS],
+        vertices: &mut [NO_VERTEX; 13],
+        ..Workspace::none()
     };
-    let value = planner.vertex_cut_between(a, b, work, &mut buffer)?;
-    check_cut(value, &buffer, cut, NO_VERTEX)
+    let value = planner.vertex_cut_between(a, b, &mut workspace)?;
+    check_cut(value, workspace.vertices, cut, NO_VERTEX)
+}
+
+// Both nearest cuts of an unjoined pair are these, asked for one after the other in one workspace: the
+// second question leaves the cut that the first one told.
+pub(crate) fn check_both<S: Editable>(
+    planner: &mut Planner<S>,
+    a: Vertex,
+    b: Vertex,
+    edges: &[Edge],
+    vertices: &[Vertex],
+) -> Result<(), Fail> {
+    let mut workspace = Workspace {
+        words: &mut [0; WORDS],
+        numbers: &mut [0; NUMBERS],
+        nodes: &mut [0; CELLS],
+        steps: &mut [NO_STEP; CELLS],
+        edges: &mut [NO_EDGE; 13],
+        vertices: &mut [NO_VERTEX; 13],
+        ..Workspace::none()
+    };
+    let edge_value = planner.edge_cut_between(a, b, &mut workspace)?;
+    let vertex_value = planner.vertex_cut_between(a, b, &mut workspace)?;
+    check_cut(edge_value, workspace.edges, edges, NO_EDGE)?;
+    check_cut(vertex_value, workspace.vertices, vertices, NO_VERTEX)
 }
 
 // A planner of a map of n vertices with these edges.

@@ -1,5 +1,5 @@
 // Pairs of the check maps, over each store.
-use crate::asking::{check_edges, check_vertices, edge, planned};
+use crate::asking::{check_both, check_edges, check_vertices, edge, planned};
 use grid::Grid;
 use list::List;
 use model::Call;
@@ -40,7 +40,8 @@ fn ring_of_five<S: Editable>(memory: S::Memory) -> Result<(), Fail> {
     check_edges(&mut planner, 0, 1, &[edge(0, 1), edge(0, 4)])?;
     check_edges(&mut planner, 2, 0, &[edge(1, 2), edge(2, 3)])?;
     check_vertices(&mut planner, 0, 2, &[1, 4])?;
-    check_vertices(&mut planner, 2, 0, &[1, 3])
+    check_vertices(&mut planner, 2, 0, &[1, 3])?;
+    check_both(&mut planner, 2, 0, &[edge(1, 2), edge(2, 3)], &[1, 3])
 }
 
 // Four vertices, all joined but 0 and 1.

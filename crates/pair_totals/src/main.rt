@@ -3,7 +3,7 @@
 // input; a line of five sums is printed.
 #![tactic(auto)]
 
-use connectivity::{CELLS, NUMBERS, WORDS, Work};
+use connectivity::{CELLS, NUMBERS, WORDS};
 use cuts::Edge;
 use frames::read_call;
 use grid::Grid;
@@ -65,15 +65,6 @@ impl Totals {
     }
 }
 
-// The work memory of all questions, one after another.
-#[derive(Drop)]
-struct Memory {
-    words: [u64; WORDS],
-    numbers: [u16; NUMBERS],
-    nodes: [u16; CELLS],
-    steps: [Step; CELLS],
-}
-
 // What is added up of both kinds.
 #[derive(Clone, Copy, Default)]
 struct Sums {
@@ -82,61 +73,45 @@ struct Sums {
 }
 
 impl Sums {
-    // Adds one pair: two questions with buffers of two kinds, so the halves are written out.
+    // Adds one pair: two questions, one after the other, in the same workspace.
     fn add_pair<S: Editable>(
         &mut self,
         planner: &mut Planner<S>,
-        memory: &mut Memory,
+        workspace: &mut Workspace<'_>,
         a: Vertex,
         b: Vertex,
     ) {
-        let Memory {
-            words,
-            numbers,
-            nodes,
-            steps,
-        } = memory;
-        let mut edges = [Edge { low: 0, high: 0 }; CUT_ITEMS];
-        let work = Work {
-            words: &mut *words,
-            numbers: &mut *numbers,
-            nodes: &mut *nodes,
-            steps: &mut *steps,
-        };
-        if let Ok(value) = planner.edge_cut_between(a, b, work, &mut edges) {
-            self.edges.add(value, &edges);
+        if let Ok(value) = planner.edge_cut_between(a, b, workspace) {
+            self.edges.add(value, workspace.edges);
         }
-        let mut vertices = [0; CUT_ITEMS];
-        let work = Work {
-            words,
-            numbers,
-            nodes,
-            steps,
-        };
-        if let Ok(value) = planner.vertex_cut_between(a, b, work, &mut vertices) {
-            self.vertices.add(value, &vertices);
+        if let Ok(value) = planner.vertex_cut_between(a, b, workspace) {
+            self.vertices.add(value, workspace.vertices);
         }
     }
 }
 
-// Adds up the pairs of the map of a planner.
+// Adds up the pairs of the map of a planner, in one workspace.
 fn add_all<S: Editable>(planner: &mut Planner<S>) -> Sums {
     let none = Step {
         node: 0,
         before: 0,
         forwards: true,
     };
-    let mut memory = Memory {
-        words: [0; WORDS],
-        numbers: [0; NUMBERS],
-        nodes: [0; CELLS],
-        steps: [none; CELLS],
+    let mut workspace = Workspace {
+        words: &mut [0; WORDS],
+        numbers: &mut [0; NUMBERS],
+        nodes: &mut [0; CELLS],
+        steps: &mut [none; CELLS],
+        edges: &mut [Edge { low: 0, high: 0 }; CUT_ITEMS],
+        vertices: &mut [0; CUT_ITEMS],
+        runs: &mut [],
+        routes: &mut [],
     };
     let mut sums = Sums::default();
     let n = planner.order();
     for a in 0..FIRSTS {
         for b in a + 1..n {
-            sums.add_pair(planner, &mut memory, a, b);
+            sums.add_pair(planner, &mut workspace, a, b);
         }
     }
     sums
