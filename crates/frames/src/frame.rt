@@ -1,5 +1,5 @@
 // From a line of input to the call that it asks for.
-ghost use Rattle.std.specs.Prelude.{◌≡◌, ℕ};
+ghost use Rattle.std.specs.Prelude.{◌≡◌, ℕ, ◌+◌, IfOk};
 ghost use Rattle.frames.specs.Frames.{kind_read, call_read, frame_read, request};
 ghost use Rattle.frames.specs.Views.{view};
 
@@ -45,9 +45,11 @@ pub fn call_of<B: Bytes>(frame: &Frame<B>) -> Result<Call, FrameFault>
     })
 }
 
-// The frame in a line of hexadecimal text. Its payload is the very stretch of the line.
+// The frame in a line of hexadecimal text. Its payload is the very stretch of the line: it begins at
+// its place in the line's own memory, an empty one too.
 pub fn read_frame<'a>(line: &'a [u8]) -> Result<Frame<Hex<'a>>, FrameFault>
-    ensures { view result ≡ frame_read line.now }
+    ensures frame { view result ≡ frame_read line.now }
+    ensures part { IfOk result (λ f. f.payload.text.ref_ptr ≡ (line.entry.ref_ptr.0, line.entry.ref_ptr.1 + f.payload.place)) }
 {
     check_digits(line)?;
     let kind = frame_kind(&Hex {

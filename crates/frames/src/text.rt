@@ -1,5 +1,5 @@
 // Replies as lines of capital hexadecimal.
-ghost use Rattle.std.specs.Prelude.{◌≡◌, ℕ, ◌<◌, List, [], ◌∷◌, ◌++◌, Err, OnOk};
+ghost use Rattle.std.specs.Prelude.{◌≡◌, ℕ, ◌+◌, ◌*◌, ◌<◌, ◌≤◌, List, [], ◌∷◌, ◌++◌, length, Err, OnOk, IsOk, vec_len, vec_capacity};
 ghost use Rattle.frames.specs.Text.{capital, hex_byte, hex_text, two_bytes, reply_bytes, reply_text};
 
 use crate::fault::SessionFault;
@@ -19,14 +19,20 @@ fn capital(d: u8) -> u8
 
 // Writes one byte. Not by `write!`, whose error on a `Vec<u8>` is none of the allocator's.
 fn write_byte(out: &mut Vec<u8>, b: u8) -> Result<(), AllocError>
-    ensures { OnOk result (out.new.items ≡ out.old.items ++ hex_byte b) }
+    ensures items { OnOk result (out.new.items ≡ out.old.items ++ hex_byte b) }
+    ensures len { OnOk result (vec_len out.new ≡ vec_len out.old + 2) }
+    ensures capacity { vec_capacity out.old ≤ vec_capacity out.new }
+    ensures succeeds { vec_len out.old + 2 ≤ vec_capacity out.old → IsOk result }
 {
     out.extend_from_slice(&[capital(b / 16), capital(b % 16)])
 }
 
 // Writes bytes one after the other.
 fn write_bytes(out: &mut Vec<u8>, bytes: &[u8]) -> Result<(), AllocError>
-    ensures { OnOk result (out.new.items ≡ out.old.items ++ hex_text bytes.now) }
+    ensures items { OnOk result (out.new.items ≡ out.old.items ++ hex_text bytes.now) }
+    ensures len { OnOk result (vec_len out.new ≡ vec_len out.old + 2 * length bytes.now) }
+    ensures capacity { vec_capacity out.old ≤ vec_capacity out.new }
+    ensures succeeds { vec_len out.old + 2 * length bytes.now ≤ vec_capacity out.old → IsOk result }
 {
     for b in bytes {
         write_byte(out, *b)?;
@@ -64,7 +70,10 @@ fn write_body(
     line: usize,
     reply: Result<Answer, SessionFault>,
 ) -> Result<(), AllocError>
-    ensures { OnOk result (out.new.items ≡ out.old.items ++ hex_text (reply_bytes line reply)) }
+    ensures items { OnOk result (out.new.items ≡ out.old.items ++ hex_text (reply_bytes line reply)) }
+    ensures len { OnOk result (vec_len out.new ≡ vec_len out.old + 2 * length (reply_bytes line reply)) }
+    ensures capacity { vec_capacity out.old ≤ vec_capacity out.new }
+    ensures succeeds { vec_len out.old + 2 * length (reply_bytes line reply) ≤ vec_capacity out.old → IsOk result }
 {
     match reply {
         Ok(answer) => write_byte(out, answer.into()),
@@ -78,7 +87,10 @@ pub fn write_reply(
     line: usize,
     reply: Result<Answer, SessionFault>,
 ) -> Result<(), AllocError>
-    ensures { OnOk result (out.new.items ≡ out.old.items ++ reply_text line reply) }
+    ensures items { OnOk result (out.new.items ≡ out.old.items ++ reply_text line reply) }
+    ensures len { OnOk result (vec_len out.new ≡ vec_len out.old + length (reply_text line reply)) }
+    ensures capacity { vec_capacity out.old ≤ vec_capacity out.new }
+    ensures succeeds { vec_len out.old + length (reply_text line reply) ≤ vec_capacity out.old → IsOk result }
 {
     write_body(out, line, reply)?;
     out.push(b'\n')?;
