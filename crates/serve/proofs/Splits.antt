@@ -1,5 +1,5 @@
 -- An input, line by line.
-use Rattle.std.proofs.Common.{◌≡◌, ℕ, zero, suc, ◌+◌, ◌<◌, ◌≤◌, Bool, cond, eqb, ltb, not, false, List, [], ◌∷◌, length, get_or, take, drop, Some, None, sym, refl, ap, ◌∙◌, ⊎_elim, arith, add-one}
+use Rattle.std.proofs.Common.{◌≡◌, ℕ, zero, suc, ◌+◌, ◌<◌, ◌≤◌, Bool, cond, eqb, ltb, not, true, false, List, [], ◌∷◌, length, get_or, take, drop, Some, None, sym, refl, ap, ◌∙◌, ⊎_elim, arith, add-one}
 use Rattle.std.proofs.lemmas.Bool.{cases_eq, cases_Bool, eq-eqb, eqb-true, ltb-false, not-true}
 use Rattle.std.proofs.lemmas.List.{drop_all}
 use Rattle.std.specs.List.{position, position_or_len}
@@ -52,3 +52,15 @@ unended xs some e =
     (λ l. let z : ⊥ = omega arith in absurd z)
     ∙ ap (λ (ys : List ℕ). take (length xs) xs ∷ lines ys) (drop_all (suc (length xs)) xs (omega arith) ∙ sym (drop_all (length xs) xs (omega arith))))
     (cases_Bool (ltb stop (length xs)))
+
+-- Whatever is put in front, there is a first line.
+some_first : (b : Bool) (c : ℕ) (ls : List (List ℕ)) → 1 ≤ length (cond b ([] ∷ ls) (onto c ls))
+some_first true c ls = omega arith
+some_first false c [] = omega arith
+some_first false c (l ∷ ls) = omega arith
+
+-- An input that is not empty has a line.
+pub some_line : (xs : List ℕ) → 0 < length xs → 1 ≤ length (lines xs)
+unfolding lines
+some_line [] h = absurd (omega (arith, h))
+some_line (c ∷ cs) h = some_first (eqb c newline) c (lines cs)

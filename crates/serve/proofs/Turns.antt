@@ -1,71 +1,225 @@
 -- A session that is answered line by line.
-use Rattle.std.proofs.Common.{◌≡◌, ℕ, suc, ◌+◌, List, [], ◌∷◌, ◌++◌, Ok, Err, Result, sym, ap, ◌∙◌, subst, append_assoc, add-one}
+use Rattle.std.proofs.Common.{◌≡◌, ℕ, false, suc, ◌+◌, ◌≤◌, List, [], ◌∷◌, ◌++◌, length, Ok, Err, IfErr, Result, sym, refl, ap, ap₂, ◌∙◌, subst, append_assoc, arith, length-append}
 use Rattle.std.proofs.lemmas.List.{append-nil}
 use Rattle.model.specs.declared.call.Answer.{Answer}
 use Rattle.model.specs.declared.call.Call.{Call}
+use Rattle.model.specs.declared.call.Call.TheVariants.{Make, Join, Part, Strike, Lift}
 use Rattle.model.specs.declared.refusal.Refusal.{Refusal}
-use Rattle.model.specs.Model.{Lent, State, unmade, made, blank}
-use Rattle.model.specs.Table.{Reply, reply}
-use Rattle.model.specs.declared.call.Call.TheVariants.{Make}
-use Rattle.model.specs.Law.{Right, after, settle}
-use Rattle.frames.specs.declared.fault.FrameFault.{FrameFault}
-use Rattle.frames.specs.declared.fault.SessionFault.TheVariants as fault
+use Rattle.model.specs.Kinds.{is_question}
+use Rattle.model.specs.Model.{Lent, State, unmade}
+use Rattle.workspace.specs.declared.Workspace.{Workspace}
+use Rattle.workspace.specs.Buffers.{Buffers}
+use Rattle.workspace.specs.Parts.{SameMemory, Untouched}
+use Rattle.law.specs.Told.{said, left_by}
+use Rattle.law.specs.Law.{Event, event, Sound}
+use Rattle.law.proofs.Events.{sound_none}
 use Rattle.frames.specs.Frames.{request}
 use Rattle.frames.specs.Text.{Reported, reply_text}
 use Rattle.serve.specs.declared.lines.Line.{Line}
 use Rattle.serve.specs.declared.lines.Lines.{Lines}
 use Rattle.serve.specs.Lines.{lines}
-use Rattle.serve.specs.Served.{RightRequest, RightLine, after_request, after_line, AllRight, session_text, SessionText}
-use Rattle.serve.specs.Progress.{left, Rests}
+use Rattle.serve.specs.Served.{Reply, reported, IsReplyTo, Exactly, Replied, events_at, events_of, left_after, Dialogue, session_text, SessionText, BrokenOff, reply_limit}
+use Rattle.serve.specs.Progress.{left, reply_in, as_call, SoFar}
 
--- Nothing is answered yet.
-pub rests_all : (lent : Lent) (input : List ℕ) (ls : Lines) → ls.taken ≡ 0 → ls.rest.now ≡ input → Rests lent input unmade ls []
-unfolding AllRight
-rests_all lent input ls none all rs h =
-    (rs, subst (λ (xs : List ℕ). AllRight lent unmade (lines xs) rs) all h, ap (λ (n : ℕ). session_text (suc n) rs) none)
+-- A call of today is no question.
+pub no_question : (c : Call) → is_question c ≡ false
+no_question (Make n) = refl
+no_question (Join u v) = refl
+no_question (Part u v) = refl
+no_question (Strike u v) = refl
+no_question (Lift u v) = refl
 
--- All is answered.
-pub rests_none : (lent : Lent) (input : List ℕ) (s : State) (ls : Lines) (written : List ℕ) → left ls ≡ [] → Rests lent input s ls written → SessionText lent input written
-unfolding AllRight session_text
-rests_none lent input s ls written none rests =
-    let r = rests [] (subst (λ (xs : List (List ℕ)). AllRight lent s xs []) (sym none) tt) in
-    (r.0, r.1, sym (append-nil written) ∙ r.2)
+-- The event of a line that asks for a call.
+pub event_of_call : (lent : Lent) (c : Call) (r : Result Answer Refusal) (b : Buffers)
+    → events_at lent (Ok c) (reply_in (as_call r) b) ≡ event lent c (said r b) ∷ []
+event_of_call lent c (Ok a) b = refl
+event_of_call lent c (Err r) b = refl
 
--- A line that asks for a call is answered as the call is.
-pub right_accepted : (lent : Lent) (s : State) (line : List ℕ) (c : Call) (a : Answer) → request line ≡ Ok c → Right lent s c (Ok a) → RightLine lent s line (Ok a)
-right_accepted lent s line c a e h = subst (λ (q : Result Call FrameFault). RightRequest lent s q (Ok a)) (sym e) h
+-- A call has a reply of a call.
+pub reply_to_call : (c : Call) (r : Result Answer Refusal) (b : Buffers) → IsReplyTo (Ok c) (reply_in (as_call r) b)
+reply_to_call c (Ok a) b = tt
+reply_to_call c (Err r) b = tt
 
-pub right_refused : (lent : Lent) (s : State) (line : List ℕ) (c : Call) (r : Refusal) → request line ≡ Ok c → Right lent s c (Err r) → RightLine lent s line (Err (fault.Call r))
-right_refused lent s line c r e h = subst (λ (q : Result Call FrameFault). RightRequest lent s q (Err (fault.Call r))) (sym e) h
+-- A reply with its lists read off buffers tells what its answer has.
+pub exactly_in : (r : Reported) (b : Buffers) → Exactly (reply_in r b)
+exactly_in (Ok a) b = refl
+exactly_in (Err f) b = tt
 
--- A line changes the state as its call does.
-pub after_call : (lent : Lent) (s : State) (line : List ℕ) (c : Call) → request line ≡ Ok c → after lent s c ≡ after_line lent s line
-after_call lent s line c e = sym (ap (λ (q : Result Call FrameFault). after_request lent s q) e)
+-- It is written as it was reported.
+pub written_as : (r : Reported) (b : Buffers) → reported (reply_in r b) ≡ r
+written_as (Ok a) b = refl
+written_as (Err f) b = refl
 
--- After an accepted make a blank map stands.
-pub after_make : (lent : Lent) (line : List ℕ) (n : ℕ) → request line ≡ Ok (Make n) → reply lent unmade (Make n) ≡ Ok tt → after_line lent unmade line ≡ made (blank n (lent.capacity n))
-after_make lent line n e ok =
-    sym (after_call lent unmade line (Make n) e) ∙ ap (λ (r : Reply). settle r (made (blank n (lent.capacity n))) unmade) ok
+-- Nothing is written by one step and by another.
+pub untouched_next : (a b c : Workspace) → Untouched a b → Untouched b c → Untouched a c
+untouched_next a b c h g = (g.0 ∙ h.0, g.1 ∙ h.1, g.2 ∙ h.2, g.3 ∙ h.3, g.4 ∙ h.4)
+
+-- The same memory is lent after one step and another.
+pub same_next : (a b c : Workspace) → SameMemory a b → SameMemory b c → SameMemory a c
+same_next a b c h g = (g.0 ∙ h.0, g.1 ∙ h.1, g.2 ∙ h.2, g.3 ∙ h.3, g.4 ∙ h.4, g.5 ∙ h.5, g.6 ∙ h.6, g.7 ∙ h.7)
+
+-- As many replies as lines.
+pub as_many : (ls : List (List ℕ)) (rs : List Reply) → Replied ls rs → length rs ≡ length ls
+as_many [] [] h = refl
+as_many [] (r ∷ rs) h = absurd h
+as_many (l ∷ ls) [] h = absurd h
+as_many (l ∷ ls) (r ∷ rs) h = ap suc (as_many ls rs h.1)
+
+-- One line more, with its reply.
+replied_push : (ls : List (List ℕ)) (rs : List Reply) (l : List ℕ) (r : Reply)
+    → Replied ls rs → IsReplyTo (request l) r → Exactly r → Replied (ls ++ (l ∷ [])) (rs ++ (r ∷ []))
+replied_push [] [] l r h fit exact = ((fit, exact), tt)
+replied_push [] (x ∷ rs) l r h fit exact = absurd h
+replied_push (y ∷ ls) [] l r h fit exact = absurd h
+replied_push (y ∷ ls) (x ∷ rs) l r h fit exact = (h.0, replied_push ls rs l r h.1 fit exact)
+
+-- Its event comes last.
+events_push : (lent : Lent) (ls : List (List ℕ)) (rs : List Reply) (l : List ℕ) (r : Reply)
+    → Replied ls rs → events_of lent (ls ++ (l ∷ [])) (rs ++ (r ∷ [])) ≡ events_of lent ls rs ++ events_at lent (request l) r
+unfolding events_of
+events_push lent [] [] l r h = append-nil (events_at lent (request l) r)
+events_push lent [] (x ∷ rs) l r h = absurd h
+events_push lent (y ∷ ls) [] l r h = absurd h
+events_push lent (y ∷ ls) (x ∷ rs) l r h =
+    ap (λ (es : List Event). events_at lent (request y) x ++ es) (events_push lent ls rs l r h.1)
+    ∙ sym (append_assoc (events_at lent (request y) x) (events_of lent ls rs) (events_at lent (request l) r))
+
+-- What is left after some events and then others.
+left_later : (es fs : List Event) (b : Buffers) → left_after (es ++ fs) b ≡ left_after fs (left_after es b)
+unfolding left_after
+left_later [] fs b = refl
+left_later (e ∷ es) fs b = left_later es fs (left_by e.said b)
+
+-- What one call leaves.
+pub left_one : (e : Event) (b : Buffers) → left_after (e ∷ []) b ≡ left_by e.said b
+unfolding left_after
+left_one e b = refl
+
+pub left_none : (b : Buffers) → left_after [] b ≡ b
+unfolding left_after
+left_none b = refl
+
+-- The text of one reply more.
+text_push : (n : ℕ) (rs : List Reply) (r : Reply)
+    → session_text n (rs ++ (r ∷ [])) ≡ session_text n rs ++ reply_text (n + length rs) (reported r)
+unfolding session_text
+text_push n [] r = append-nil (reply_text n (reported r)) ∙ ap (λ (k : ℕ). reply_text k (reported r)) (omega arith)
+text_push n (x ∷ rs) r =
+    ap (λ (t : List ℕ). reply_text n (reported x) ++ t) (text_push (suc n) rs r ∙ ap (λ (k : ℕ). session_text (suc n) rs ++ reply_text k (reported r)) (omega arith))
+    ∙ sym (append_assoc (reply_text n (reported x)) (session_text (suc n) rs) (reply_text (n + suc (length rs)) (reported r)))
+
+-- No text yet.
+no_text : (n : ℕ) (before : List ℕ) → before ≡ before ++ session_text n []
+unfolding session_text
+no_text n before = sym (append-nil before)
+
+-- The text of a reply is short.
+pub short_reply : (n : ℕ) (r : Reported) → length (reply_text n r) ≤ reply_limit
+short_reply n (Ok a) = omega arith
+short_reply n (Err f) = omega arith
+
+-- What a line's call does to every sound session.
+abbrev pub Goes : Lent → State → List ℕ → Reply → State → Type 0
+Goes lent s l r s' = (events : List Event) → Sound events s → Sound (events ++ events_at lent (request l) r) s'
+
+-- No line is answered yet.
+pub dialogue_none : (lent : Lent) (b : Buffers) → Dialogue lent [] [] unmade b b
+unfolding events_of left_after
+dialogue_none lent b = record { replied = tt; sound = sound_none; left = refl }
+
+-- One line more is answered.
+pub dialogue_next : (lent : Lent) (ls : List (List ℕ)) (rs : List Reply) (s s' : State) (old mid new : Buffers) (l : List ℕ) (r : Reply)
+    → Dialogue lent ls rs s old mid → Goes lent s l r s' → IsReplyTo (request l) r → Exactly r → new ≡ left_after (events_at lent (request l) r) mid
+    → Dialogue lent (ls ++ (l ∷ [])) (rs ++ (r ∷ [])) s' old new
+dialogue_next lent ls rs s s' old mid new l r d goes fit exact step =
+    let es = events_of lent ls rs in
+    let one = events_at lent (request l) r in
+    let more = sym (events_push lent ls rs l r d.replied) in
+    record {
+      replied = replied_push ls rs l r d.replied fit exact;
+      sound = subst (λ (xs : List Event). Sound xs s') more (goes es d.sound);
+      left = step ∙ ap (left_after one) d.left ∙ sym (left_later es one old) ∙ ap (λ (xs : List Event). left_after xs old) more;
+    }
+
+-- Of an input whose first line is not answered.
+pub broken_none : (lent : Lent) (input : List ℕ) (b : Buffers) → BrokenOff lent input unmade b b
+broken_none lent input b = record { asked = []; unasked = lines input; in_order = refl; replies = []; answered = dialogue_none lent b }
+
+-- What holds in any case holds after an error.
+pub if_failed : {A E P : Type 0} (r : Result A E) → P → IfErr r (λ _. P)
+if_failed (Ok a) h = tt
+if_failed (Err e) h = h
+
+-- At the beginning.
+pub so_far_none : (lent : Lent) (input : List ℕ) (ls : Lines) (b : Buffers) (before : List ℕ)
+    → ls.taken ≡ 0 → ls.rest.now ≡ input → SoFar lent input ls unmade b b before before
+so_far_none lent input ls b before none all = record {
+  asked = [];
+  in_order = ap lines (sym all);
+  counted = none;
+  replies = [];
+  answered = dialogue_none lent b;
+  text = no_text 1 before;
+}
+
+-- At the end.
+pub so_far_all : (lent : Lent) (input : List ℕ) (ls : Lines) (s : State) (old new : Buffers) (before written : List ℕ)
+    → left ls ≡ [] → SoFar lent input ls s old new before written → SessionText lent input s old new before written
+so_far_all lent input ls s old new before written none h =
+    let whole : lines input ≡ h.asked = h.in_order ∙ ap (λ (xs : List (List ℕ)). h.asked ++ xs) none ∙ append-nil h.asked in
+    record {
+      replies = h.replies;
+      answered = subst (λ (xs : List (List ℕ)). Dialogue lent xs h.replies s old new) (sym whole) h.answered;
+      text = h.text;
+    }
 
 -- The first line that is left is taken: its text, with the next number.
 abbrev pub Takes : Lines → Line → Lines → Type 0
 Takes before l after = (left before ≡ l.text.now ∷ left after) × (l.number ≡ before.taken + 1) × (after.taken ≡ before.taken + 1)
 
--- The reply to a line, put behind what is written, is the text of the line's reply.
-next_text : (taken taken' number : ℕ) (written written' : List ℕ) (r : Reported) (rs : List Reported)
-    → number ≡ taken + 1 → taken' ≡ taken + 1 → written' ≡ written ++ reply_text number r
-    → written' ++ session_text (suc taken') rs ≡ written ++ session_text (suc taken) (r ∷ rs)
-unfolding session_text
-next_text taken taken' number written written' r rs e f g =
-    rw (g, e, f, add-one taken) (append_assoc written (reply_text (suc taken) r) (session_text (suc (suc taken)) rs))
+-- The lines are those before it, the line, and those after it.
+order_next : (all asked : List (List ℕ)) (l : List ℕ) (now later : List (List ℕ)) → all ≡ asked ++ now → now ≡ l ∷ later → all ≡ (asked ++ (l ∷ [])) ++ later
+order_next all asked l now later h first = h ∙ ap (λ (xs : List (List ℕ)). asked ++ xs) first ∙ sym (append_assoc asked (l ∷ []) later)
 
--- One line more is answered, from what a turn says of the state and the text after it.
-pub rests_turn : (lent : Lent) (input : List ℕ) (s s' : State) (before : Lines) (l : Line) (after : Lines) (written written' : List ℕ) (r : Reported)
-    → Takes before l after → Rests lent input s before written
-    → RightLine lent s l.text.now r → s' ≡ after_line lent s l.text.now → written' ≡ written ++ reply_text l.number r
-    → Rests lent input s' after written'
-unfolding AllRight
-rests_turn lent input s s' before l after written written' r takes rests right next text rs h =
-    let h' = subst (λ (x : State). AllRight lent x (left after) rs) next h in
-    let w = rests (r ∷ rs) (subst (λ (ls : List (List ℕ)). AllRight lent s ls (r ∷ rs)) (sym takes.0) (right, h')) in
-    (w.0, w.1, next_text before.taken after.taken l.number written written' r rs takes.1 takes.2 text ∙ w.2)
+-- One line more is counted.
+counted_next : (asked : List (List ℕ)) (l : List ℕ) (taken taken' : ℕ) → taken ≡ length asked → taken' ≡ taken + 1 → taken' ≡ length (asked ++ (l ∷ []))
+counted_next asked l taken taken' h next = omega (arith, length-append asked (l ∷ []), h, next)
+
+-- The reply to a line, put behind what is written.
+text_next : (before written : List ℕ) (rs : List Reply) (r : Reply) (number : ℕ) → written ≡ before ++ session_text 1 rs → number ≡ 1 + length rs
+    → written ++ reply_text number (reported r) ≡ before ++ session_text 1 (rs ++ (r ∷ []))
+text_next before written rs r number h is =
+    ap₂ (λ (w : List ℕ) (n : ℕ). w ++ reply_text n (reported r)) h is
+    ∙ append_assoc before (session_text 1 rs) (reply_text (1 + length rs) (reported r))
+    ∙ ap (λ (t : List ℕ). before ++ t) (sym (text_push 1 rs r))
+
+-- The text finds no memory after one line more.
+pub broken_next : (lent : Lent) (input : List ℕ) (s s' : State) (ls : Lines) (l : Line) (after : Lines) (old mid new : Buffers) (before written : List ℕ) (r : Reply)
+    → Takes ls l after → SoFar lent input ls s old mid before written
+    → Goes lent s l.text.now r s' → IsReplyTo (request l.text.now) r → Exactly r → new ≡ left_after (events_at lent (request l.text.now) r) mid
+    → BrokenOff lent input s' old new
+broken_next lent input s s' ls l after old mid new before written r takes h goes fit exact step = record {
+  asked = h.asked ++ (l.text.now ∷ []);
+  unasked = left after;
+  in_order = order_next (lines input) h.asked l.text.now (left ls) (left after) h.in_order takes.0;
+  replies = h.replies ++ (r ∷ []);
+  answered = dialogue_next lent h.asked h.replies s s' old mid new l.text.now r h.answered goes fit exact step;
+}
+
+-- One line more is answered, and its reply is written.
+pub so_far_next : (lent : Lent) (input : List ℕ) (s s' : State) (ls : Lines) (l : Line) (after : Lines) (old mid new : Buffers) (before written written' : List ℕ) (r : Reply)
+    → Takes ls l after → SoFar lent input ls s old mid before written
+    → Goes lent s l.text.now r s' → IsReplyTo (request l.text.now) r → Exactly r → new ≡ left_after (events_at lent (request l.text.now) r) mid
+    → written' ≡ written ++ reply_text l.number (reported r)
+    → SoFar lent input after s' old new before written'
+so_far_next lent input s s' ls l after old mid new before written written' r takes h goes fit exact step put =
+    let many = as_many h.asked h.replies h.answered.replied in
+    let number : l.number ≡ 1 + length h.replies = omega (arith, takes.1, h.counted, many) in
+    record {
+      asked = h.asked ++ (l.text.now ∷ []);
+      in_order = order_next (lines input) h.asked l.text.now (left ls) (left after) h.in_order takes.0;
+      counted = counted_next h.asked l.text.now ls.taken after.taken h.counted takes.2;
+      replies = h.replies ++ (r ∷ []);
+      answered = dialogue_next lent h.asked h.replies s s' old mid new l.text.now r h.answered goes fit exact step;
+      text = put ∙ text_next before written h.replies r l.number h.text number;
+    }

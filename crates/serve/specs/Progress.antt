@@ -1,18 +1,37 @@
 -- How far an input is answered.
 --
---   left    the lines that are left
---   Rests   what is written answers the lines that were taken
-use Rattle.std.specs.Prelude.{ℕ, suc, List, ◌++◌}
+--   left       the lines that are left
+--   reply_in   a reply, with its lists as they stand in the buffers
+--   as_call    what a call was answered, as the reply to its line
+--   SoFar      the lines that were taken are answered
+use Rattle.std.specs.Prelude.{◌≡◌, ℕ, List, ◌++◌, length, Ok, Err, Result}
+use Rattle.model.specs.declared.call.Answer.{Answer}
+use Rattle.model.specs.declared.refusal.Refusal.{Refusal}
 use Rattle.model.specs.Model.{Lent, State}
+use Rattle.workspace.specs.Buffers.{Buffers}
+use Rattle.law.specs.Told.{told}
+use Rattle.frames.specs.declared.fault.SessionFault.TheVariants as fault
 use Rattle.frames.specs.Text.{Reported}
 use Rattle.serve.specs.declared.lines.Lines.{Lines}
 use Rattle.serve.specs.Lines.{lines}
-use Rattle.serve.specs.Served.{AllRight, session_text, SessionText}
+use Rattle.serve.specs.Served.{Reply, Dialogue, session_text}
 
 abbrev pub left : Lines → List (List ℕ)
 left ls = lines ls.rest.now
 
--- The session is in a state: right replies to the lines that are left make what is written whole.
-abbrev pub Rests : Lent → List ℕ → State → Lines → List ℕ → Type 0
-Rests lent input s ls written =
-    (replies : List Reported) → AllRight lent s (left ls) replies → SessionText lent input (written ++ session_text (suc ls.taken) replies)
+abbrev pub reply_in : Reported → Buffers → Reply
+reply_in (Ok a) b = Ok (told a b)
+reply_in (Err f) b = Err f
+
+abbrev pub as_call : Result Answer Refusal → Reported
+as_call (Ok a) = Ok a
+as_call (Err r) = Err (fault.Call r)
+
+-- The lines that were taken are answered, and their text is written.
+pub record SoFar (lent : Lent) (input : List ℕ) (ls : Lines) (state : State) (old new : Buffers) (before written : List ℕ) : Type 0 where
+  pub asked : List (List ℕ)
+  pub in_order : lines input ≡ asked ++ left ls
+  pub counted : ls.taken ≡ length asked
+  pub replies : List Reply
+  pub answered : Dialogue lent asked replies state old new
+  pub text : written ≡ before ++ session_text 1 replies

@@ -1,15 +1,27 @@
--- What is written for a whole input: the text of the session's replies.
+-- What comes of a whole input: a reply to each line, a session of the calls that the lines ask for, and the
+-- text of the replies.
 --
---   RightLine, after_line   the right reply to a line, and the state after it
---   AllRight                each line has its right reply, in order
---   session_text             the text of the replies, a line each, lines counted from 1
---   Served                   all of it for an input
-use Rattle.std.specs.Prelude.{◌≡◌, ℕ, suc, List, [], ◌∷◌, ◌++◌, length, Ok, Err, MatchBool, Result, nat_lt}
+--   Reply, reported        what is replied to a line; the same without its lists, as it is written
+--   IsReplyTo, Exactly     a call has its answer or refusal, any other line its fault; a reply tells its lists
+--   Replied                each line has its reply
+--   events_at, events_of   the call that a line asks for, with what was said to it; those of some lines
+--   left_after             the buffers after some events
+--   Dialogue               lines, their replies, and the session that they are
+--   session_text           the text of the replies, a line each, lines counted from 1
+--   SessionText            a whole input, answered
+--   BrokenOff              a front part of its lines, answered
+--   Served                 all of it, for an input of any length
+use Rattle.std.specs.Prelude.{◌≡◌, ℕ, suc, ◌*◌, List, [], ◌∷◌, ◌++◌, length, Ok, Err, MatchBool, Result, nat_lt}
+use Rattle.std.specs.List.{AllZip}
 use Rattle.model.specs.declared.call.Call.{Call}
 use Rattle.model.specs.declared.refusal.Refusal.TheVariants.{ShortMemory}
 use Rattle.model.specs.Model.{Lent, State, unmade}
-use Rattle.model.specs.Law.{after, Right}
+use Rattle.cuts.specs.RouteBytes.{bytes_of}
+use Rattle.workspace.specs.Buffers.{Buffers}
+use Rattle.law.specs.Told.{Told, told, left_by}
+use Rattle.law.specs.Law.{Event, event, Sound}
 use Rattle.frames.specs.declared.fault.FrameFault.{FrameFault}
+use Rattle.frames.specs.declared.fault.SessionFault.{SessionFault}
 use Rattle.frames.specs.declared.fault.SessionFault.TheVariants as fault
 use Rattle.frames.specs.Frames.{request}
 use Rattle.frames.specs.Text.{Reported, reply_text}
@@ -19,45 +31,93 @@ use Rattle.serve.specs.Lines.{lines}
 abbrev pub input_limit : ℕ
 input_limit = 32768
 
--- A call is answered or refused as the model says.
-abbrev pub RightCall : Lent → State → Call → Reported → Type 0
-RightCall lent s c (Ok a) = Right lent s c (Ok a)
-RightCall lent s c (Err (fault.Call r)) = Right lent s c (Err r)
-RightCall lent s c (Err (fault.Frame f)) = ⊥
+-- What a call told, or the fault that the line met.
+abbrev pub Reply : Type 0
+Reply = Result Told SessionFault
 
--- A line that asks for nothing is refused with its fault.
-abbrev pub RightRequest : Lent → State → Result Call FrameFault → Reported → Type 0
-RightRequest lent s (Ok c) r = RightCall lent s c r
-RightRequest lent s (Err f) r = r ≡ Err (fault.Frame f)
+-- A reply as it is written.
+abbrev pub reported : Reply → Reported
+reported (Ok t) = Ok t.answer
+reported (Err f) = Err f
 
-abbrev pub RightLine : Lent → State → List ℕ → Reported → Type 0
-RightLine lent s line r = RightRequest lent s (request line) r
+-- A call is told of or refused as a call; a line that asks for none is refused with its fault.
+abbrev pub IsReplyTo : Result Call FrameFault → Reply → Type 0
+IsReplyTo (Ok c) (Ok t) = Unit {0}
+IsReplyTo (Ok c) (Err (fault.Call r)) = Unit {0}
+IsReplyTo (Ok c) (Err (fault.Frame f)) = ⊥
+IsReplyTo (Err f) r = r ≡ Err (fault.Frame f)
 
-abbrev pub after_request : Lent → State → Result Call FrameFault → State
-after_request lent s (Ok c) = after lent s c
-after_request lent s (Err f) = s
+-- The lists of a reply, as they stand in buffers.
+abbrev pub lists_of : Told → Buffers
+lists_of t = record { edges = t.edges; vertices = t.vertices; runs = t.runs; routes = bytes_of t.routes }
 
-abbrev pub after_line : Lent → State → List ℕ → State
-after_line lent s line = after_request lent s (request line)
+-- A reply tells the lists that its answer has, and no others.
+abbrev pub Exactly : Reply → Type 0
+Exactly (Ok t) = t ≡ told t.answer (lists_of t)
+Exactly (Err f) = Unit {0}
 
-unfoldable pub AllRight : Lent → State → List (List ℕ) → List Reported → Type 0
-AllRight lent s [] [] = Unit {0}
-AllRight lent s [] (r ∷ rs) = ⊥
-AllRight lent s (l ∷ ls) [] = ⊥
-AllRight lent s (l ∷ ls) (r ∷ rs) = RightLine lent s l r × AllRight lent (after_line lent s l) ls rs
+-- Each line has its reply.
+abbrev pub Replied : List (List ℕ) → List Reply → Type 0
+Replied ls rs = AllZip (λ l r. IsReplyTo (request l) r × Exactly r) ls rs
 
-unfoldable pub session_text : ℕ → List Reported → List ℕ
+-- A call and what was said to it; a line that asks for none is no event.
+abbrev pub events_at : Lent → Result Call FrameFault → Reply → List Event
+events_at lent (Ok c) (Ok t) = event lent c (Ok t) ∷ []
+events_at lent (Ok c) (Err (fault.Call r)) = event lent c (Err r) ∷ []
+events_at lent (Ok c) (Err (fault.Frame f)) = []
+events_at lent (Err f) r = []
+
+unfoldable pub events_of : Lent → List (List ℕ) → List Reply → List Event
+events_of lent [] rs = []
+events_of lent (l ∷ ls) [] = []
+events_of lent (l ∷ ls) (r ∷ rs) = events_at lent (request l) r ++ events_of lent ls rs
+
+-- What the events told stands in front in the buffers, each after those before it, and all else is as it was.
+unfoldable pub left_after : List Event → Buffers → Buffers
+left_after [] b = b
+left_after (e ∷ es) b = left_after es (left_by e.said b)
+
+-- Lines and their replies: the calls that the lines ask for are a session that has come to this state, and
+-- what they told is what is left in the buffers.
+pub record Dialogue (lent : Lent) (asked : List (List ℕ)) (replies : List Reply) (state : State) (old new : Buffers) : Type 0 where
+  pub replied : Replied asked replies
+  pub sound : Sound (events_of lent asked replies) state
+  pub left : new ≡ left_after (events_of lent asked replies) old
+
+unfoldable pub session_text : ℕ → List Reply → List ℕ
 session_text line [] = []
-session_text line (r ∷ rs) = reply_text line r ++ session_text (suc line) rs
+session_text line (r ∷ rs) = reply_text line (reported r) ++ session_text (suc line) rs
 
--- A whole session: there are replies, each right at its moment, and this is their text.
-abbrev pub SessionText : Lent → List ℕ → List ℕ → Type 0
-SessionText lent input text = (replies : List Reported) × AllRight lent unmade (lines input) replies × (text ≡ session_text 1 replies)
+-- A whole input is answered: there is a reply to each line, and their text is put behind what was written.
+pub record SessionText (lent : Lent) (input : List ℕ) (state : State) (old new : Buffers) (before written : List ℕ) : Type 0 where
+  pub replies : List Reply
+  pub answered : Dialogue lent (lines input) replies state old new
+  pub text : written ≡ before ++ session_text 1 replies
+
+-- A front part of the lines is answered: what stands when the text finds no memory.
+pub record BrokenOff (lent : Lent) (input : List ℕ) (state : State) (old new : Buffers) : Type 0 where
+  pub asked : List (List ℕ)
+  pub unasked : List (List ℕ)
+  pub in_order : lines input ≡ asked ++ unasked
+  pub replies : List Reply
+  pub answered : Dialogue lent asked replies state old new
 
 -- Input that is too long gets one refusal of the call layer, of no line.
 abbrev pub too_long : List ℕ
 too_long = reply_text 0 (Err (fault.Call ShortMemory))
 
--- What is written for an input, with what the memory lent to it is good for.
-abbrev pub Served : Lent → List ℕ → List ℕ → Type 0
-Served lent input text = MatchBool (nat_lt input_limit (length input)) (text ≡ too_long) (SessionText lent input text)
+-- What comes of an input, with what is lent to its calls: the state that the session has come to, what is
+-- left in the buffers, and the text put behind what was written before. Input that is too long is no session.
+abbrev pub Served : Lent → List ℕ → State → Buffers → Buffers → List ℕ → List ℕ → Type 0
+Served lent input state old new before written =
+    MatchBool (nat_lt input_limit (length input))
+    ((written ≡ before ++ too_long) × (state ≡ unmade) × (new ≡ old))
+    (SessionText lent input state old new before written)
+
+-- The text of a reply takes no more bytes.
+abbrev pub reply_limit : ℕ
+reply_limit = 15
+
+-- Room enough for the text of an input's replies.
+abbrev pub text_limit : List ℕ → ℕ
+text_limit input = reply_limit * length (lines input)

@@ -1,37 +1,56 @@
 // The reply to a line of an input.
-ghost use Rattle.std.specs.Prelude.{◌≡◌, Ok, Err, MatchResult};
-ghost use Rattle.model.specs.Model.{Lent, unmade, made};
-ghost use Rattle.model.specs.Table.{reply};
-ghost use Rattle.model.specs.declared.call.Call.TheVariants.{Make};
+ghost use Rattle.std.specs.Prelude.{◌≡◌, List, ◌++◌, Err, IfErr};
+ghost use Rattle.model.specs.Model.{Lent, Room};
+ghost use Rattle.workspace.specs.Parts.{buffers, sizes_of, SameMemory, Untouched};
+ghost use Rattle.law.specs.Law.{Event, Sound};
 ghost use Rattle.frames.specs.Frames.{request};
-ghost use Rattle.session.specs.Kept.{model_of};
-ghost use Rattle.serve.specs.Served.{RightLine, after_line};
+ghost use Rattle.session.specs.Kept.{state_reached};
+ghost use Rattle.session.specs.Calls.{lent_at};
+ghost use Rattle.serve.specs.Served.{IsReplyTo, Exactly, events_at, left_after};
+ghost use Rattle.serve.specs.Progress.{reply_in, as_call};
 
 use frames::{SessionFault, read_call};
-use model::{Answer, Call, Refusal};
-use session::{Planner, perform};
+use model::{Answer, Refusal};
+use session::{Planner, respond};
 use store::{Editable, Map};
+use workspace::Workspace;
 
-// The reply to a line before an accepted make: the order that a make asks for, where it can
-// be made over the memory.
-pub(crate) fn open<S: Editable>(memory: &S::Memory, line: &[u8]) -> Result<u16, SessionFault>
-    ensures { MatchResult result (λ n. (request line.now ≡ Ok (Make n)) × (reply (S.Editable.lent memory.now) unmade (Make n) ≡ Ok tt)) (λ f. RightLine (S.Editable.lent memory.now) unmade line.now (Err f) × (after_line (S.Editable.lent memory.now) unmade line.now ≡ unmade)) }
+// What a call was answered, as the reply to its line.
+fn as_call(reply: Result<Answer, Refusal>) -> Result<Answer, SessionFault>
+    ensures { result ≡ as_call reply }
 {
-    let Call::Make(n) = read_call(line)? else {
-        return Err(SessionFault::Call(Refusal::OutOfTurn));
-    };
-    S::room(n, memory)?;
-    Ok(n)
+    match reply {
+        Ok(answer) => Ok(answer),
+        Err(refusal) => Err(SessionFault::Call(refusal)),
+    }
 }
 
-// The reply to a line on a map that stands.
+// Answers a line: the call that it asks for is made, or its fault is told.
 pub(crate) fn answer<S: Editable>(
-    planner: &mut Planner<S>,
+    session: Result<Planner<S>, S::Memory>,
+    workspace: &mut Workspace<'_>,
     line: &[u8],
-) -> Result<Answer, SessionFault>
-    ensures right { (lent : Lent) → RightLine lent (made (model_of S.Map.graph S.Editable.most planner.old)) line.now result }
-    ensures after { (lent : Lent) → made (model_of S.Map.graph S.Editable.most planner.new) ≡ after_line lent (made (model_of S.Map.graph S.Editable.most planner.old)) line.now }
+) -> (Result<Planner<S>, S::Memory>, Result<Answer, SessionFault>)
+    ensures law { (room : Room) (events : List Event)
+        → IfErr session (λ m. S.room_in m ≡ room)
+        → Sound events (state_reached S.graph S.most session)
+        → Sound (events ++ events_at (lent_at room workspace.old) (request line.now) (reply_in result.1 (buffers workspace.new)))
+        (state_reached S.graph S.most result.0) }
+    ensures reply { IsReplyTo (request line.now) (reply_in result.1 (buffers workspace.new)) }
+    ensures exact { Exactly (reply_in result.1 (buffers workspace.new)) }
+    ensures left { (lent : Lent)
+        → buffers workspace.new
+        ≡ left_after (events_at lent (request line.now) (reply_in result.1 (buffers workspace.new))) (buffers workspace.old) }
+    ensures untouched { Untouched workspace.old workspace.new }
+    ensures back { IfErr result.0 (λ m. session ≡ Err m) }
+    ensures memory { SameMemory workspace.old workspace.new }
+    ensures sizes { sizes_of workspace.new ≡ sizes_of workspace.old }
 {
-    let call = read_call(line)?;
-    Ok(perform(planner, call)?)
+    match read_call(line) {
+        Ok(call) => {
+            let (next, reply) = respond::<S>(session, call, workspace);
+            (next, as_call(reply))
+        }
+        Err(fault) => (session, Err(SessionFault::Frame(fault))),
+    }
 }

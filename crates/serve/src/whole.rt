@@ -1,89 +1,76 @@
-// The whole session: lines before the make, the make, and lines after it.
-ghost use Rattle.std.specs.Prelude.{◌≡◌, ℕ, List, [], IfOk, Ok, MatchOption, OnOk};
-ghost use Rattle.model.specs.Model.{Lent, unmade, made, blank};
-ghost use Rattle.model.specs.Table.{reply};
-ghost use Rattle.model.specs.declared.call.Call.TheVariants.{Make};
-ghost use Rattle.session.specs.Kept.{model_of};
-ghost use Rattle.serve.specs.Served.{SessionText, Served};
-ghost use Rattle.serve.specs.Progress.{Rests};
+// The whole session: a reply to each line, and what the session has come to.
+ghost use Rattle.std.specs.Prelude.{◌≡◌, ◌+◌, ◌<◌, ◌≤◌, length, Err, IfOk, IfErr, IsOk, vec_len, vec_capacity};
+ghost use Rattle.workspace.specs.Parts.{buffers, sizes_of, SameMemory, Untouched};
+ghost use Rattle.session.specs.Kept.{state_reached};
+ghost use Rattle.session.specs.Calls.{lent_at};
+ghost use Rattle.serve.specs.Served.{input_limit, SessionText, BrokenOff, Served, text_limit};
 
-use crate::line::{answer, open};
+use crate::line::answer;
 use crate::lines::Lines;
 use frames::{SessionFault, write_reply};
-use model::{Answer, Refusal};
+use model::Refusal;
 use session::Planner;
-use std::alloc::{AllocError, Global};
+use std::alloc::AllocError;
 use store::{Editable, Map};
+use workspace::Workspace;
 
 // The most bytes of input that are read as lines.
 const INPUT_LIMIT: usize = 32768;
 
-// Answers lines until a make is accepted, and gives the order of its map.
-fn await_make<S: Editable>(
-    memory: &S::Memory,
-    lines: &mut Lines<'_>,
-    out: &mut Vec<u8>,
-) -> Result<Option<u16>, AllocError>
-    ensures { IfOk result (λ made_order. MatchOption made_order ((input : List ℕ) → Rests (S.Editable.lent memory.now) input unmade lines.old out.old.items → SessionText (S.Editable.lent memory.now) input out.new.items) (λ n. (reply (S.Editable.lent memory.now) unmade (Make n) ≡ Ok tt) × ((input : List ℕ) → Rests (S.Editable.lent memory.now) input unmade lines.old out.old.items → Rests (S.Editable.lent memory.now) input (made (blank n ((S.Editable.lent memory.now).capacity n))) lines.new out.new.items))) }
-{
-    // Not `for`, after which nothing is known of the lines that are left.
-    while let Some(line) = lines.next() {
-        match open::<S>(memory, line.text) {
-            Ok(order) => {
-                write_reply(out, line.number, Ok(Answer::Made))?;
-                return Ok(Some(order));
-            }
-            Err(fault) => write_reply(out, line.number, Err(fault))?,
-        }
-    }
-    Ok(None)
-}
-
-// Answers the lines that are left, on a map that stands.
-fn play<S: Editable>(
-    planner: &mut Planner<S>,
-    lines: Lines<'_>,
-    out: &mut Vec<u8>,
-) -> Result<(), AllocError>
-    ensures { OnOk result ((lent : Lent) (input : List ℕ) → Rests lent input (made (model_of S.Map.graph S.Editable.most planner.old)) lines.entry out.old.items → SessionText lent input out.new.items) }
-{
-    for line in lines {
-        let reply = answer(planner, line.text);
-        write_reply(out, line.number, reply)?;
-    }
-    Ok(())
-}
-
-// Answers a whole input, line by line.
+// Answers an input line by line.
 fn answer_all<S: Editable>(
     memory: S::Memory,
+    workspace: &mut Workspace<'_>,
     input: &[u8],
     out: &mut Vec<u8>,
-) -> Result<(), AllocError>
-    requires { out.old.items ≡ [] }
-    ensures { OnOk result (SessionText (S.Editable.lent memory) input.now out.new.items) }
+) -> (Result<Planner<S>, S::Memory>, Result<(), AllocError>)
+    ensures answered { IfOk result.1 (λ _. SessionText (lent_at (S.room_in memory) workspace.old) input.now
+        (state_reached S.graph S.most result.0) (buffers workspace.old) (buffers workspace.new) out.old.items out.new.items) }
+    ensures broken { IfErr result.1 (λ _. BrokenOff (lent_at (S.room_in memory) workspace.old) input.now
+        (state_reached S.graph S.most result.0) (buffers workspace.old) (buffers workspace.new)) }
+    ensures back { IfErr result.0 (λ m. m ≡ memory) }
+    ensures untouched { Untouched workspace.old workspace.new }
+    ensures memory { SameMemory workspace.old workspace.new }
+    ensures sizes { sizes_of workspace.new ≡ sizes_of workspace.old }
+    ensures succeeds { vec_len out.old + text_limit input.now ≤ vec_capacity out.old → IsOk result.1 }
 {
-    let mut lines = Lines::of(input);
-    let Some(order) = await_make::<S>(&memory, &mut lines, out)? else {
-        return Ok(());
-    };
-    let mut planner = Planner::<S>::make(order, memory);
-    play(&mut planner, lines, out)
+    let mut session = Err(memory);
+    for line in Lines::of(input) {
+        let (next, reply) = answer::<S>(session, workspace, line.text);
+        session = next;
+        if let Err(failed) = write_reply(out, line.number, reply) {
+            return (session, Err(failed));
+        }
+    }
+    (session, Ok(()))
 }
 
-// Serves a whole input over memory for a store, and gives the text of the replies.
+// Serves a whole input over memory for a store: writes the text of the replies behind what `out` holds,
+// and gives the session that the calls have come to, the planner or the memory as it was lent. An error is
+// want of memory for the text.
 pub fn serve<S: Editable>(
-    heap: Global,
     memory: S::Memory,
+    workspace: &mut Workspace<'_>,
     input: &[u8],
-) -> Result<Vec<u8>, AllocError>
-    ensures { IfOk result (λ out. Served (S.Editable.lent memory) input.now out.items) }
+    out: &mut Vec<u8>,
+) -> (Result<Planner<S>, S::Memory>, Result<(), AllocError>)
+    ensures served { IfOk result.1 (λ _. Served (lent_at (S.room_in memory) workspace.old) input.now
+        (state_reached S.graph S.most result.0) (buffers workspace.old) (buffers workspace.new) out.old.items out.new.items) }
+    // Without memory for all of the text, the session is that of the lines up to there.
+    ensures broken { IfErr result.1 (λ _. BrokenOff (lent_at (S.room_in memory) workspace.old) input.now
+        (state_reached S.graph S.most result.0) (buffers workspace.old) (buffers workspace.new)) }
+    ensures long { input_limit < length input.now → result.0 ≡ Err memory }
+    ensures back { IfErr result.0 (λ m. m ≡ memory) }
+    // No call of today is a question, so nothing at all is written into the workspace.
+    ensures untouched { Untouched workspace.old workspace.new }
+    ensures memory { SameMemory workspace.old workspace.new }
+    ensures sizes { sizes_of workspace.new ≡ sizes_of workspace.old }
+    ensures succeeds { vec_len out.old + text_limit input.now ≤ vec_capacity out.old → IsOk result.1 }
 {
-    let mut out = Vec::new(heap);
     if input.len() > INPUT_LIMIT {
-        write_reply(&mut out, 0, Err(SessionFault::Call(Refusal::ShortMemory)))?;
-    } else {
-        answer_all::<S>(memory, input, &mut out)?;
+        let refusal = SessionFault::Call(Refusal::ShortMemory);
+        let written = write_reply(out, 0, Err(refusal));
+        return (Err(memory), written);
     }
-    Ok(out)
+    answer_all::<S>(memory, workspace, input, out)
 }

@@ -1,33 +1,32 @@
-use Rattle.std.proofs.Common.{◌≡◌, Ok, Err, sym, ap, ◌∙◌, subst}
-use Rattle.std.proofs.lemmas.Result.{err_from_is_err_and}
-use Rattle.model.specs.Model.{made}
+use Rattle.std.proofs.Common.{◌≡◌, List, Ok, Err, Result, sym, ap, ap₂, ◌∙◌}
+use Rattle.model.specs.declared.call.Call.{Call}
+use Rattle.workspace.specs.Parts.{buffers}
+use Rattle.law.specs.Told.{said}
+use Rattle.law.specs.Law.{Event, event}
+use Rattle.frames.specs.declared.fault.FrameFault.{FrameFault}
+use Rattle.frames.specs.declared.fault.SessionFault.TheVariants as fault
 use Rattle.frames.specs.Frames.{request}
 use Rattle.frames.specs.Text.{Reported}
-use Rattle.frames.specs.declared.fault.SessionFault.TheVariants as fault
-use Rattle.session.specs.Kept.{model_of}
-use Rattle.serve.specs.Served.{RightLine}
-use Rattle.serve.proofs.Turns.{right_accepted, right_refused, after_call}
+use Rattle.serve.specs.Served.{events_at, left_after}
+use Rattle.serve.specs.Progress.{reply_in}
+use Rattle.serve.proofs.Turns.{event_of_call, left_one, left_none}
 use Rattle.serve.proofs.line.answer.Goals as goal
 
-pub returns-in_err-perform : goal.returns-in_err-perform
-returns-in_err-perform g c =
-    let line = c.args.line.now in
-    let s = made (model_of g.S.Map.graph g.S.Editable.most c.args.planner.now) in
-    let asks : request line ≡ Ok c.in_ok-call.call = sym c.read_call.ensures ∙ c.in_ok-call.was in
-    let p = err_from_is_err_and c.from_residual-in_err-perform.result c.from_residual-in_err-perform.ensures.1 in
-    let is : c.from_residual-in_err-perform.result ≡ Err (fault.Call c.in_err-perform.field-0.0) = p.1 ∙ ap Err p.2 in
-    record {
-      right = λ lent. subst (λ (r : Reported). RightLine lent s line r) (sym is)
-          (right_refused lent s line c.in_ok-call.call c.in_err-perform.field-0.0 asks (c.in_err-perform.ensures.right lent));
-      after = λ lent. c.perform.ensures.after lent ∙ after_call lent s line c.in_ok-call.call asks;
-    }
+-- A call leaves in the buffers what its one event does.
+pub returns-in-Ok-clause-left : goal.returns-in-Ok-clause-left
+returns-in-Ok-clause-left g c lent =
+    let call = c.in-Ok.call in
+    let old = buffers c.args.workspace.now in
+    let now = buffers c.respond-next.new.workspace in
+    let r = c.respond-next.result.1 in
+    let asks : request c.args.line.now ≡ Ok call = sym c.read_call.ensures ∙ c.in-Ok.is in
+    let one = ap₂ (λ (q : Result Call FrameFault) (x : Reported). events_at lent q (reply_in x now)) asks c.as_call.ensures ∙ event_of_call lent call r now in
+    c.respond-next.ensures.written ∙ sym (left_one (event lent call (said r now)) old) ∙ sym (ap (λ (es : List Event). left_after es old) one)
 
-pub returns : goal.returns
-returns g c =
-    let line = c.args.line.now in
-    let s = made (model_of g.S.Map.graph g.S.Editable.most c.args.planner.now) in
-    let asks : request line ≡ Ok c.in_ok-call.call = sym c.read_call.ensures ∙ c.in_ok-call.was in
-    record {
-      right = λ lent. right_accepted lent s line c.in_ok-call.call c.in_ok-perform.field-0 asks (c.in_ok-perform.ensures.right lent);
-      after = λ lent. c.perform.ensures.after lent ∙ after_call lent s line c.in_ok-call.call asks;
-    }
+-- A line that asks for no call leaves them.
+pub returns-in-Err-clause-left : goal.returns-in-Err-clause-left
+returns-in-Err-clause-left g c lent =
+    let old = buffers c.args.workspace.now in
+    let f = c.in-Err.fault in
+    let asks : request c.args.line.now ≡ Err f = sym c.read_call.ensures ∙ c.in-Err.is in
+    sym (ap (λ (q : Result Call FrameFault). left_after (events_at lent q (Err (fault.Frame f))) old) asks ∙ left_none old)
