@@ -12,7 +12,7 @@ use Rattle.workspace.specs.Buffers.{Buffers}
 use Rattle.workspace.specs.Parts.{SameMemory, Untouched}
 use Rattle.law.specs.Told.{said, left_by}
 use Rattle.law.specs.Law.{Event, event, Sound}
-use Rattle.law.proofs.Events.{sound_none}
+use Rattle.law.proofs.Events.{not_begun_lem}
 use Rattle.frames.specs.Frames.{request}
 use Rattle.frames.specs.Text.{Reported, reply_text}
 use Rattle.serve.specs.declared.lines.Line.{Line}
@@ -125,7 +125,7 @@ Goes lent s l r s' = (events : List Event) → Sound events s → Sound (events 
 -- No line is answered yet.
 pub dialogue_none : (lent : Lent) (b : Buffers) → Dialogue lent [] [] unmade b b
 unfolding events_of left_after
-dialogue_none lent b = record { replied = tt; sound = sound_none; left = refl }
+dialogue_none lent b = record { replied = tt; sound = not_begun_lem; left = refl }
 
 -- One line more is answered.
 pub dialogue_next : (lent : Lent) (ls : List (List ℕ)) (rs : List Reply) (s s' : State) (old mid new : Buffers) (l : List ℕ) (r : Reply)

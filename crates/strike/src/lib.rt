@@ -117,7 +117,8 @@ impl<S: Editable> Strike<S> {
     pub fn join(&mut self, u: Vertex, v: Vertex) -> Result<(), Refusal>
         ensures reply { result ≡ reply_on (kept S.graph S.most self.old) (Join u v) }
         ensures after { made (kept S.graph S.most self.new) ≡ after nothing (made (kept S.graph S.most self.old)) (Join u v) }
-        ensures held { held_under S.held self.new ≡ memory_after S.with_edge_in S.without_edge_in (kept S.graph S.most self.old) (Join u v) (held_under S.held self.old) }
+        ensures held { held_under S.held self.new
+            ≡ memory_after S.with_edge_in S.without_edge_in (kept S.graph S.most self.old) (Join u v) (held_under S.held self.old) }
         ensures unchanged { is_ok result ≡ false → self.new ≡ self.old }
     {
         self.check_unstruck(u, v)?;
@@ -128,7 +129,8 @@ impl<S: Editable> Strike<S> {
     pub fn part(&mut self, u: Vertex, v: Vertex) -> Result<(), Refusal>
         ensures reply { result ≡ reply_on (kept S.graph S.most self.old) (Part u v) }
         ensures after { made (kept S.graph S.most self.new) ≡ after nothing (made (kept S.graph S.most self.old)) (Part u v) }
-        ensures held { held_under S.held self.new ≡ memory_after S.with_edge_in S.without_edge_in (kept S.graph S.most self.old) (Part u v) (held_under S.held self.old) }
+        ensures held { held_under S.held self.new
+            ≡ memory_after S.with_edge_in S.without_edge_in (kept S.graph S.most self.old) (Part u v) (held_under S.held self.old) }
         ensures unchanged { is_ok result ≡ false → self.new ≡ self.old }
     {
         self.check_unstruck(u, v)?;
@@ -139,7 +141,8 @@ impl<S: Editable> Strike<S> {
     pub fn strike(&mut self, u: Vertex, v: Vertex) -> Result<(), Refusal>
         ensures reply { result ≡ reply_on (kept S.graph S.most self.old) (StrikeCall u v) }
         ensures after { made (kept S.graph S.most self.new) ≡ after nothing (made (kept S.graph S.most self.old)) (StrikeCall u v) }
-        ensures held { held_under S.held self.new ≡ memory_after S.with_edge_in S.without_edge_in (kept S.graph S.most self.old) (StrikeCall u v) (held_under S.held self.old) }
+        ensures held { held_under S.held self.new
+            ≡ memory_after S.with_edge_in S.without_edge_in (kept S.graph S.most self.old) (StrikeCall u v) (held_under S.held self.old) }
         ensures unchanged { is_ok result ≡ false → self.new ≡ self.old }
     {
         self.check_unstruck(u, v)?;
@@ -157,7 +160,8 @@ impl<S: Editable> Strike<S> {
     pub fn lift(&mut self, u: Vertex, v: Vertex) -> Result<(), Refusal>
         ensures reply { result ≡ reply_on (kept S.graph S.most self.old) (Lift u v) }
         ensures after { made (kept S.graph S.most self.new) ≡ after nothing (made (kept S.graph S.most self.old)) (Lift u v) }
-        ensures held { held_under S.held self.new ≡ memory_after S.with_edge_in S.without_edge_in (kept S.graph S.most self.old) (Lift u v) (held_under S.held self.old) }
+        ensures held { held_under S.held self.new
+            ≡ memory_after S.with_edge_in S.without_edge_in (kept S.graph S.most self.old) (Lift u v) (held_under S.held self.old) }
         ensures unchanged { is_ok result ≡ false → self.new ≡ self.old }
     {
         check_ends(self.store.order(), u, v)?;
