@@ -3,6 +3,7 @@
 
 use delivery::over_grid;
 use std::io::{Read, Write};
+use workspace::Workspace;
 
 // One byte more than is served, so that longer input shows.
 const READ_LIMIT: u64 = 32769;
@@ -10,14 +11,16 @@ const READ_LIMIT: u64 = 32769;
 // Words for 200 vertices, four each.
 const WORDS: usize = 800;
 
-// A function for this and the other program would be public and could promise nothing: no clause
-// says what is printed.
+// Edits take no workspace. A function for this and the other program would be public and could promise
+// nothing: no clause says what is printed.
 fn main(rt: HostRuntime) -> anyhow::Result<()> {
     let heap = rt.alloc();
     let mut input = Vec::new(heap);
     rt.stdin().take(READ_LIMIT).read_to_end(&mut input)?;
     let mut words = vec![in heap; 0u64; WORDS]?;
-    let out = over_grid(heap, &mut words, &input)?;
+    let mut out = Vec::new(heap);
+    let (_, written) = over_grid(&mut words, &mut Workspace::none(), &input, &mut out);
+    written?;
     rt.stdout().write_all(&out)?;
     Ok(())
 }

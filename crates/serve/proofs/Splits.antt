@@ -15,7 +15,8 @@ last_line c (suc k) [] e = refl
 last_line c k (x ∷ xs) e = let z : ⊥ = omega arith in absurd z
 
 -- A first line that is ended at k, or that goes to the end.
-first_line : (xs : List ℕ) (k : ℕ) → 0 < length xs → k ≤ length xs → ((i : ℕ) → i < k → eqb (get_or xs i 0) newline ≡ false) → (k < length xs → get_or xs k 0 ≡ newline) → lines xs ≡ take k xs ∷ lines (drop (suc k) xs)
+first_line : (xs : List ℕ) (k : ℕ) → 0 < length xs → k ≤ length xs → ((i : ℕ) → i < k → eqb (get_or xs i 0) newline ≡ false)
+    → (k < length xs → get_or xs k 0 ≡ newline) → lines xs ≡ take k xs ∷ lines (drop (suc k) xs)
 unfolding lines
 first_line [] k some h none here = let z : ⊥ = omega arith in absurd z
 first_line (c ∷ cs) zero some h none here =

@@ -1,11 +1,9 @@
 -- A session that is answered line by line.
-use Rattle.std.proofs.Common.{◌≡◌, ℕ, false, suc, ◌+◌, ◌≤◌, List, [], ◌∷◌, ◌++◌, length, Ok, Err, IfErr, Result, sym, refl, ap, ap₂, ◌∙◌, subst, append_assoc, arith, length-append}
+use Rattle.std.proofs.Common.{◌≡◌, ℕ, suc, ◌+◌, ◌≤◌, List, [], ◌∷◌, Some, ◌++◌, length, Ok, Err, IfErr, Result, sym, refl, ap, ap₂, ◌∙◌, subst, append_assoc, arith, length-append}
 use Rattle.std.proofs.lemmas.List.{append-nil}
 use Rattle.model.specs.declared.call.Answer.{Answer}
 use Rattle.model.specs.declared.call.Call.{Call}
-use Rattle.model.specs.declared.call.Call.TheVariants.{Make, Join, Part, Strike, Lift}
 use Rattle.model.specs.declared.refusal.Refusal.{Refusal}
-use Rattle.model.specs.Kinds.{is_question}
 use Rattle.model.specs.Model.{Lent, State, unmade}
 use Rattle.workspace.specs.declared.Workspace.{Workspace}
 use Rattle.workspace.specs.Buffers.{Buffers}
@@ -13,39 +11,22 @@ use Rattle.workspace.specs.Parts.{SameMemory, Untouched}
 use Rattle.law.specs.Told.{said, left_by}
 use Rattle.law.specs.Law.{Event, event, Sound}
 use Rattle.law.proofs.Events.{not_begun_lem}
+use Rattle.frames.specs.declared.fault.FrameFault.{FrameFault}
 use Rattle.frames.specs.Frames.{request}
 use Rattle.frames.specs.Text.{Reported, reply_text}
 use Rattle.serve.specs.declared.lines.Line.{Line}
 use Rattle.serve.specs.declared.lines.Lines.{Lines}
 use Rattle.serve.specs.Lines.{lines}
 use Rattle.serve.specs.Served.{Reply, reported, IsReplyTo, Exactly, Replied, events_at, events_of, left_after, Dialogue, session_text, SessionText, BrokenOff, reply_limit}
-use Rattle.serve.specs.Progress.{left, reply_in, as_call, SoFar}
-
--- A call of today is no question.
-pub no_question : (c : Call) → is_question c ≡ false
-no_question (Make n) = refl
-no_question (Join u v) = refl
-no_question (Part u v) = refl
-no_question (Strike u v) = refl
-no_question (Lift u v) = refl
+use Rattle.serve.specs.Progress.{Takes, left, reply_in, as_call, SoFar}
 
 -- The event of a line that asks for a call.
-pub event_of_call : (lent : Lent) (c : Call) (r : Result Answer Refusal) (b : Buffers)
+event_of_call : (lent : Lent) (c : Call) (r : Result Answer Refusal) (b : Buffers)
     → events_at lent (Ok c) (reply_in (as_call r) b) ≡ event lent c (said r b) ∷ []
 event_of_call lent c (Ok a) b = refl
 event_of_call lent c (Err r) b = refl
 
--- A call has a reply of a call.
-pub reply_to_call : (c : Call) (r : Result Answer Refusal) (b : Buffers) → IsReplyTo (Ok c) (reply_in (as_call r) b)
-reply_to_call c (Ok a) b = tt
-reply_to_call c (Err r) b = tt
-
--- A reply with its lists read off buffers tells what its answer has.
-pub exactly_in : (r : Reported) (b : Buffers) → Exactly (reply_in r b)
-exactly_in (Ok a) b = refl
-exactly_in (Err f) b = tt
-
--- It is written as it was reported.
+-- A reply is written as it was reported.
 pub written_as : (r : Reported) (b : Buffers) → reported (reply_in r b) ≡ r
 written_as (Ok a) b = refl
 written_as (Err f) b = refl
@@ -59,7 +40,7 @@ pub same_next : (a b c : Workspace) → SameMemory a b → SameMemory b c → Sa
 same_next a b c h g = (g.0 ∙ h.0, g.1 ∙ h.1, g.2 ∙ h.2, g.3 ∙ h.3, g.4 ∙ h.4, g.5 ∙ h.5, g.6 ∙ h.6, g.7 ∙ h.7)
 
 -- As many replies as lines.
-pub as_many : (ls : List (List ℕ)) (rs : List Reply) → Replied ls rs → length rs ≡ length ls
+as_many : (ls : List (List ℕ)) (rs : List Reply) → Replied ls rs → length rs ≡ length ls
 as_many [] [] h = refl
 as_many [] (r ∷ rs) h = absurd h
 as_many (l ∷ ls) [] h = absurd h
@@ -91,13 +72,26 @@ left_later [] fs b = refl
 left_later (e ∷ es) fs b = left_later es fs (left_by e.said b)
 
 -- What one call leaves.
-pub left_one : (e : Event) (b : Buffers) → left_after (e ∷ []) b ≡ left_by e.said b
+left_one : (e : Event) (b : Buffers) → left_after (e ∷ []) b ≡ left_by e.said b
 unfolding left_after
 left_one e b = refl
 
-pub left_none : (b : Buffers) → left_after [] b ≡ b
+-- What no call leaves.
+left_none : (b : Buffers) → left_after [] b ≡ b
 unfolding left_after
 left_none b = refl
+
+-- What a line that asks for a call leaves.
+pub left_call : (lent : Lent) (line : List ℕ) (c : Call) (r : Result Answer Refusal) (x : Reported) (old now : Buffers)
+    → request line ≡ Ok c → x ≡ as_call r → now ≡ left_by (said r now) old → now ≡ left_after (events_at lent (request line) (reply_in x now)) old
+left_call lent line c r x old now asks is wrote =
+    let one = ap₂ (λ (q : Result Call FrameFault) (y : Reported). events_at lent q (reply_in y now)) asks is ∙ event_of_call lent c r now in
+    wrote ∙ sym (left_one (event lent c (said r now)) old) ∙ sym (ap (λ (es : List Event). left_after es old) one)
+
+-- What a line that asks for none leaves.
+pub left_fault : (lent : Lent) (line : List ℕ) (f : FrameFault) (r : Reply) (old : Buffers)
+    → request line ≡ Err f → old ≡ left_after (events_at lent (request line) r) old
+left_fault lent line f r old asks = sym (ap (λ (q : Result Call FrameFault). left_after (events_at lent q r) old) asks ∙ left_none old)
 
 -- The text of one reply more.
 text_push : (n : ℕ) (rs : List Reply) (r : Reply)
@@ -123,12 +117,12 @@ abbrev pub Goes : Lent → State → List ℕ → Reply → State → Type 0
 Goes lent s l r s' = (events : List Event) → Sound events s → Sound (events ++ events_at lent (request l) r) s'
 
 -- No line is answered yet.
-pub dialogue_none : (lent : Lent) (b : Buffers) → Dialogue lent [] [] unmade b b
+dialogue_none : (lent : Lent) (b : Buffers) → Dialogue lent [] [] unmade b b
 unfolding events_of left_after
 dialogue_none lent b = record { replied = tt; sound = not_begun_lem; left = refl }
 
 -- One line more is answered.
-pub dialogue_next : (lent : Lent) (ls : List (List ℕ)) (rs : List Reply) (s s' : State) (old mid new : Buffers) (l : List ℕ) (r : Reply)
+dialogue_next : (lent : Lent) (ls : List (List ℕ)) (rs : List Reply) (s s' : State) (old mid new : Buffers) (l : List ℕ) (r : Reply)
     → Dialogue lent ls rs s old mid → Goes lent s l r s' → IsReplyTo (request l) r → Exactly r → new ≡ left_after (events_at lent (request l) r) mid
     → Dialogue lent (ls ++ (l ∷ [])) (rs ++ (r ∷ [])) s' old new
 dialogue_next lent ls rs s s' old mid new l r d goes fit exact step =
@@ -142,13 +136,13 @@ dialogue_next lent ls rs s s' old mid new l r d goes fit exact step =
     }
 
 -- Of an input whose first line is not answered.
-pub broken_none : (lent : Lent) (input : List ℕ) (b : Buffers) → BrokenOff lent input unmade b b
+broken_none : (lent : Lent) (input : List ℕ) (b : Buffers) → BrokenOff lent input unmade b b
 broken_none lent input b = record { asked = []; unasked = lines input; in_order = refl; replies = []; answered = dialogue_none lent b }
 
--- What holds in any case holds after an error.
-pub if_failed : {A E P : Type 0} (r : Result A E) → P → IfErr r (λ _. P)
-if_failed (Ok a) h = tt
-if_failed (Err e) h = h
+-- So it is after an error, where no line was looked at.
+pub broken_failed : {A E : Type 0} (lent : Lent) (input : List ℕ) (b : Buffers) (r : Result A E) → IfErr r (λ _. BrokenOff lent input unmade b b)
+broken_failed lent input b (Ok a) = tt
+broken_failed lent input b (Err e) = broken_none lent input b
 
 -- At the beginning.
 pub so_far_none : (lent : Lent) (input : List ℕ) (ls : Lines) (b : Buffers) (before : List ℕ)
@@ -173,10 +167,6 @@ so_far_all lent input ls s old new before written none h =
       text = h.text;
     }
 
--- The first line that is left is taken: its text, with the next number.
-abbrev pub Takes : Lines → Line → Lines → Type 0
-Takes before l after = (left before ≡ l.text.now ∷ left after) × (l.number ≡ before.taken + 1) × (after.taken ≡ before.taken + 1)
-
 -- The lines are those before it, the line, and those after it.
 order_next : (all asked : List (List ℕ)) (l : List ℕ) (now later : List (List ℕ)) → all ≡ asked ++ now → now ≡ l ∷ later → all ≡ (asked ++ (l ∷ [])) ++ later
 order_next all asked l now later h first = h ∙ ap (λ (xs : List (List ℕ)). asked ++ xs) first ∙ sym (append_assoc asked (l ∷ []) later)
@@ -195,7 +185,7 @@ text_next before written rs r number h is =
 
 -- The text finds no memory after one line more.
 pub broken_next : (lent : Lent) (input : List ℕ) (s s' : State) (ls : Lines) (l : Line) (after : Lines) (old mid new : Buffers) (before written : List ℕ) (r : Reply)
-    → Takes ls l after → SoFar lent input ls s old mid before written
+    → Takes ls (Some l) after → SoFar lent input ls s old mid before written
     → Goes lent s l.text.now r s' → IsReplyTo (request l.text.now) r → Exactly r → new ≡ left_after (events_at lent (request l.text.now) r) mid
     → BrokenOff lent input s' old new
 broken_next lent input s s' ls l after old mid new before written r takes h goes fit exact step = record {
@@ -208,7 +198,7 @@ broken_next lent input s s' ls l after old mid new before written r takes h goes
 
 -- One line more is answered, and its reply is written.
 pub so_far_next : (lent : Lent) (input : List ℕ) (s s' : State) (ls : Lines) (l : Line) (after : Lines) (old mid new : Buffers) (before written written' : List ℕ) (r : Reply)
-    → Takes ls l after → SoFar lent input ls s old mid before written
+    → Takes ls (Some l) after → SoFar lent input ls s old mid before written
     → Goes lent s l.text.now r s' → IsReplyTo (request l.text.now) r → Exactly r → new ≡ left_after (events_at lent (request l.text.now) r) mid
     → written' ≡ written ++ reply_text l.number (reported r)
     → SoFar lent input after s' old new before written'

@@ -32,10 +32,12 @@ impl<'a> Lines<'a> {
 }
 
 impl<'a> Iterator for Lines<'a> {
+    ghost use Rattle.serve.specs.Progress.{Takes};
+
     type Item = Line<'a>;
 
     // The first line that is left comes out, with the next number.
-    ghost next_gives = { λ before line after. MatchOption line ((lines before.rest.now ≡ []) × (after ≡ before)) (λ l. (lines before.rest.now ≡ l.text.now ∷ lines after.rest.now) × (l.number ≡ before.taken + 1) × (after.taken ≡ before.taken + 1)) };
+    ghost next_gives = { Takes };
 
     ghost remaining = { item_count (λ ls. lines ls.rest.now) };
 

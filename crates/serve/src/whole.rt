@@ -48,6 +48,7 @@ fn answer_all<S: Editable>(
 // Serves a whole input over memory for a store: writes the text of the replies behind what `out` holds,
 // and gives the session that the calls have come to, the planner or the memory as it was lent. An error is
 // want of memory for the text.
+#[tactic(auto, using(crate::proofs::Turns::broken_failed))]
 pub fn serve<S: Editable>(
     memory: S::Memory,
     workspace: &mut Workspace<'_>,
