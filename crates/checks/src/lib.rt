@@ -9,3 +9,5 @@ mod limits;
 mod prints;
 #[cfg(test)]
 mod refusals;
+#[cfg(test)]
+mod scripts;

@@ -1,5 +1,5 @@
 // An input, line by line.
-ghost use Rattle.std.specs.Prelude.{◌≡◌, ◌+◌, ◌^◌, ◌<◌, [], ◌∷◌, length, MatchOption, ◌==◌, position};
+ghost use Rattle.std.specs.Prelude.{◌≡◌, ◌+◌, ◌^◌, ◌<◌, ◌∷◌, length, ◌==◌, position};
 ghost use Rattle.std.specs.Iterator.{item_count};
 ghost use Rattle.serve.specs.Lines.{newline, lines};
 
