@@ -21,7 +21,7 @@ use Rattle.serve.specs.Served.{Reply, reported, IsReplyTo, Exactly, Replied, eve
 use Rattle.serve.specs.Progress.{Takes, left, reply_in, as_call, SoFar}
 
 -- The event of a line that asks for a call.
-event_of_call : (lent : Lent) (c : Call) (r : Result Answer Refusal) (b : Buffers)
+pub event_of_call : (lent : Lent) (c : Call) (r : Result Answer Refusal) (b : Buffers)
     → events_at lent (Ok c) (reply_in (as_call r) b) ≡ event lent c (said r b) ∷ []
 event_of_call lent c (Ok a) b = refl
 event_of_call lent c (Err r) b = refl
@@ -116,54 +116,60 @@ short_reply n (Err f) = omega arith
 abbrev pub Goes : Lent → State → List ℕ → Reply → State → Type 0
 Goes lent s l r s' = (events : List Event) → Sound events s → Sound (events ++ events_at lent (request l) r) s'
 
+-- What it does to what the memory under the store holds.
+abbrev pub Leaves : Lent → State → List ℕ → Reply → (holds holds' : List Event → Type 0) → Type 0
+Leaves lent s l r holds holds' = (events : List Event) → Sound events s → holds events → holds' (events ++ events_at lent (request l) r)
+
 -- No line is answered yet.
-dialogue_none : (lent : Lent) (b : Buffers) → Dialogue lent [] [] unmade b b
+dialogue_none : {holds : List Event → Type 0} (lent : Lent) (b : Buffers) → holds [] → Dialogue lent [] [] holds unmade b b
 unfolding events_of left_after
-dialogue_none lent b = record { replied = tt; sound = not_begun_lem; left = refl }
+dialogue_none lent b held = record { replied = tt; sound = not_begun_lem; held = held; left = refl }
 
 -- One line more is answered.
-dialogue_next : (lent : Lent) (ls : List (List ℕ)) (rs : List Reply) (s s' : State) (old mid new : Buffers) (l : List ℕ) (r : Reply)
-    → Dialogue lent ls rs s old mid → Goes lent s l r s' → IsReplyTo (request l) r → Exactly r → new ≡ left_after (events_at lent (request l) r) mid
-    → Dialogue lent (ls ++ (l ∷ [])) (rs ++ (r ∷ [])) s' old new
-dialogue_next lent ls rs s s' old mid new l r d goes fit exact step =
+dialogue_next : {holds holds' : List Event → Type 0} (lent : Lent) (ls : List (List ℕ)) (rs : List Reply) (s s' : State) (old mid new : Buffers) (l : List ℕ) (r : Reply)
+    → Dialogue lent ls rs holds s old mid → Goes lent s l r s' → Leaves lent s l r holds holds' → IsReplyTo (request l) r → Exactly r → new ≡ left_after (events_at lent (request l) r) mid
+    → Dialogue lent (ls ++ (l ∷ [])) (rs ++ (r ∷ [])) holds' s' old new
+dialogue_next {holds' = holds'} lent ls rs s s' old mid new l r d goes leaves fit exact step =
     let es = events_of lent ls rs in
     let one = events_at lent (request l) r in
     let more = sym (events_push lent ls rs l r d.replied) in
     record {
       replied = replied_push ls rs l r d.replied fit exact;
       sound = subst (λ (xs : List Event). Sound xs s') more (goes es d.sound);
+      held = subst holds' more (leaves es d.sound d.held);
       left = step ∙ ap (left_after one) d.left ∙ sym (left_later es one old) ∙ ap (λ (xs : List Event). left_after xs old) more;
     }
 
 -- Of an input whose first line is not answered.
-broken_none : (lent : Lent) (input : List ℕ) (b : Buffers) → BrokenOff lent input unmade b b
-broken_none lent input b = record { asked = []; unasked = lines input; in_order = refl; replies = []; answered = dialogue_none lent b }
+broken_none : {holds : List Event → Type 0} (lent : Lent) (input : List ℕ) (b : Buffers) → holds [] → BrokenOff lent input holds unmade b b
+broken_none lent input b held = record { asked = []; unasked = lines input; in_order = refl; replies = []; answered = dialogue_none lent b held }
 
 -- So it is after an error, where no line was looked at.
-pub broken_failed : {A E : Type 0} (lent : Lent) (input : List ℕ) (b : Buffers) (r : Result A E) → IfErr r (λ _. BrokenOff lent input unmade b b)
-broken_failed lent input b (Ok a) = tt
-broken_failed lent input b (Err e) = broken_none lent input b
+pub broken_failed : {A E : Type 0} {holds : List Event → Type 0} (lent : Lent) (input : List ℕ) (b : Buffers) (r : Result A E) → holds []
+    → IfErr r (λ _. BrokenOff lent input holds unmade b b)
+broken_failed lent input b (Ok a) held = tt
+broken_failed lent input b (Err e) held = broken_none lent input b held
 
 -- At the beginning.
-pub so_far_none : (lent : Lent) (input : List ℕ) (ls : Lines) (b : Buffers) (before : List ℕ)
-    → ls.taken ≡ 0 → ls.rest.now ≡ input → SoFar lent input ls unmade b b before before
-so_far_none lent input ls b before none all = record {
+pub so_far_none : {holds : List Event → Type 0} (lent : Lent) (input : List ℕ) (ls : Lines) (b : Buffers) (before : List ℕ)
+    → ls.taken ≡ 0 → ls.rest.now ≡ input → holds [] → SoFar lent input ls holds unmade b b before before
+so_far_none lent input ls b before none all held = record {
   asked = [];
   in_order = ap lines (sym all);
   counted = none;
   replies = [];
-  answered = dialogue_none lent b;
+  answered = dialogue_none lent b held;
   text = no_text 1 before;
 }
 
 -- At the end.
-pub so_far_all : (lent : Lent) (input : List ℕ) (ls : Lines) (s : State) (old new : Buffers) (before written : List ℕ)
-    → left ls ≡ [] → SoFar lent input ls s old new before written → SessionText lent input s old new before written
-so_far_all lent input ls s old new before written none h =
+pub so_far_all : {holds : List Event → Type 0} (lent : Lent) (input : List ℕ) (ls : Lines) (s : State) (old new : Buffers) (before written : List ℕ)
+    → left ls ≡ [] → SoFar lent input ls holds s old new before written → SessionText lent input holds s old new before written
+so_far_all {holds = holds} lent input ls s old new before written none h =
     let whole : lines input ≡ h.asked = h.in_order ∙ ap (λ (xs : List (List ℕ)). h.asked ++ xs) none ∙ append-nil h.asked in
     record {
       replies = h.replies;
-      answered = subst (λ (xs : List (List ℕ)). Dialogue lent xs h.replies s old new) (sym whole) h.answered;
+      answered = subst (λ (xs : List (List ℕ)). Dialogue lent xs h.replies holds s old new) (sym whole) h.answered;
       text = h.text;
     }
 
@@ -184,25 +190,25 @@ text_next before written rs r number h is =
     ∙ ap (λ (t : List ℕ). before ++ t) (sym (text_push 1 rs r))
 
 -- The text finds no memory after one line more.
-pub broken_next : (lent : Lent) (input : List ℕ) (s s' : State) (ls : Lines) (l : Line) (after : Lines) (old mid new : Buffers) (before written : List ℕ) (r : Reply)
-    → Takes ls (Some l) after → SoFar lent input ls s old mid before written
-    → Goes lent s l.text.now r s' → IsReplyTo (request l.text.now) r → Exactly r → new ≡ left_after (events_at lent (request l.text.now) r) mid
-    → BrokenOff lent input s' old new
-broken_next lent input s s' ls l after old mid new before written r takes h goes fit exact step = record {
+pub broken_next : {holds holds' : List Event → Type 0} (lent : Lent) (input : List ℕ) (s s' : State) (ls : Lines) (l : Line) (after : Lines) (old mid new : Buffers) (before written : List ℕ) (r : Reply)
+    → Takes ls (Some l) after → SoFar lent input ls holds s old mid before written
+    → Goes lent s l.text.now r s' → Leaves lent s l.text.now r holds holds' → IsReplyTo (request l.text.now) r → Exactly r → new ≡ left_after (events_at lent (request l.text.now) r) mid
+    → BrokenOff lent input holds' s' old new
+broken_next lent input s s' ls l after old mid new before written r takes h goes leaves fit exact step = record {
   asked = h.asked ++ (l.text.now ∷ []);
   unasked = left after;
   in_order = order_next (lines input) h.asked l.text.now (left ls) (left after) h.in_order takes.0;
   replies = h.replies ++ (r ∷ []);
-  answered = dialogue_next lent h.asked h.replies s s' old mid new l.text.now r h.answered goes fit exact step;
+  answered = dialogue_next lent h.asked h.replies s s' old mid new l.text.now r h.answered goes leaves fit exact step;
 }
 
 -- One line more is answered, and its reply is written.
-pub so_far_next : (lent : Lent) (input : List ℕ) (s s' : State) (ls : Lines) (l : Line) (after : Lines) (old mid new : Buffers) (before written written' : List ℕ) (r : Reply)
-    → Takes ls (Some l) after → SoFar lent input ls s old mid before written
-    → Goes lent s l.text.now r s' → IsReplyTo (request l.text.now) r → Exactly r → new ≡ left_after (events_at lent (request l.text.now) r) mid
+pub so_far_next : {holds holds' : List Event → Type 0} (lent : Lent) (input : List ℕ) (s s' : State) (ls : Lines) (l : Line) (after : Lines) (old mid new : Buffers) (before written written' : List ℕ) (r : Reply)
+    → Takes ls (Some l) after → SoFar lent input ls holds s old mid before written
+    → Goes lent s l.text.now r s' → Leaves lent s l.text.now r holds holds' → IsReplyTo (request l.text.now) r → Exactly r → new ≡ left_after (events_at lent (request l.text.now) r) mid
     → written' ≡ written ++ reply_text l.number (reported r)
-    → SoFar lent input after s' old new before written'
-so_far_next lent input s s' ls l after old mid new before written written' r takes h goes fit exact step put =
+    → SoFar lent input after holds' s' old new before written'
+so_far_next lent input s s' ls l after old mid new before written written' r takes h goes leaves fit exact step put =
     let many = as_many h.asked h.replies h.answered.replied in
     let number : l.number ≡ 1 + length h.replies = omega (arith, takes.1, h.counted, many) in
     record {
@@ -210,6 +216,6 @@ so_far_next lent input s s' ls l after old mid new before written written' r tak
       in_order = order_next (lines input) h.asked l.text.now (left ls) (left after) h.in_order takes.0;
       counted = counted_next h.asked l.text.now ls.taken after.taken h.counted takes.2;
       replies = h.replies ++ (r ∷ []);
-      answered = dialogue_next lent h.asked h.replies s s' old mid new l.text.now r h.answered goes fit exact step;
+      answered = dialogue_next lent h.asked h.replies s s' old mid new l.text.now r h.answered goes leaves fit exact step;
       text = put ∙ text_next before written h.replies r l.number h.text number;
     }

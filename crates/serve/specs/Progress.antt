@@ -11,6 +11,7 @@ use Rattle.model.specs.declared.refusal.Refusal.{Refusal}
 use Rattle.model.specs.Model.{Lent, State}
 use Rattle.workspace.specs.Buffers.{Buffers}
 use Rattle.law.specs.Told.{told}
+use Rattle.law.specs.Law.{Event}
 use Rattle.frames.specs.declared.fault.SessionFault.TheVariants as fault
 use Rattle.frames.specs.Text.{Reported}
 use Rattle.serve.specs.declared.lines.Line.{Line}
@@ -38,10 +39,10 @@ as_call (Ok a) = Ok a
 as_call (Err r) = Err (fault.Call r)
 
 -- The lines that were taken are answered, and their text is written.
-pub record SoFar (lent : Lent) (input : List ℕ) (ls : Lines) (state : State) (old new : Buffers) (before written : List ℕ) : Type 0 where
+pub record SoFar (lent : Lent) (input : List ℕ) (ls : Lines) (holds : List Event → Type 0) (state : State) (old new : Buffers) (before written : List ℕ) : Type 0 where
   pub asked : List (List ℕ)
   pub in_order : lines input ≡ asked ++ left ls
   pub counted : ls.taken ≡ length asked
   pub replies : List Reply
-  pub answered : Dialogue lent asked replies state old new
+  pub answered : Dialogue lent asked replies holds state old new
   pub text : written ≡ before ++ session_text 1 replies

@@ -77,11 +77,12 @@ unfoldable pub left_after : List Event → Buffers → Buffers
 left_after [] b = b
 left_after (e ∷ es) b = left_after es (left_by e.said b)
 
--- Lines and their replies: the calls that the lines ask for are a session that has come to this state, and
--- what they told is what is left in the buffers.
-pub record Dialogue (lent : Lent) (asked : List (List ℕ)) (replies : List Reply) (state : State) (old new : Buffers) : Type 0 where
+-- Lines and their replies: the calls that the lines ask for are a session that has come to this state, the
+-- memory under its store holds what `holds` says of them, and what they told is what is left in the buffers.
+pub record Dialogue (lent : Lent) (asked : List (List ℕ)) (replies : List Reply) (holds : List Event → Type 0) (state : State) (old new : Buffers) : Type 0 where
   pub replied : Replied asked replies
   pub sound : Sound (events_of lent asked replies) state
+  pub held : holds (events_of lent asked replies)
   pub left : new ≡ left_after (events_of lent asked replies) old
 
 unfoldable pub session_text : ℕ → List Reply → List ℕ
@@ -89,30 +90,31 @@ session_text line [] = []
 session_text line (r ∷ rs) = reply_text line (reported r) ++ session_text (suc line) rs
 
 -- A whole input is answered: there is a reply to each line, and their text is put behind what was written.
-pub record SessionText (lent : Lent) (input : List ℕ) (state : State) (old new : Buffers) (before written : List ℕ) : Type 0 where
+pub record SessionText (lent : Lent) (input : List ℕ) (holds : List Event → Type 0) (state : State) (old new : Buffers) (before written : List ℕ) : Type 0 where
   pub replies : List Reply
-  pub answered : Dialogue lent (lines input) replies state old new
+  pub answered : Dialogue lent (lines input) replies holds state old new
   pub text : written ≡ before ++ session_text 1 replies
 
 -- A front part of the lines is answered: what stands when the text finds no memory.
-pub record BrokenOff (lent : Lent) (input : List ℕ) (state : State) (old new : Buffers) : Type 0 where
+pub record BrokenOff (lent : Lent) (input : List ℕ) (holds : List Event → Type 0) (state : State) (old new : Buffers) : Type 0 where
   pub asked : List (List ℕ)
   pub unasked : List (List ℕ)
   pub in_order : lines input ≡ asked ++ unasked
   pub replies : List Reply
-  pub answered : Dialogue lent asked replies state old new
+  pub answered : Dialogue lent asked replies holds state old new
 
 -- Input that is too long gets one refusal of the call layer, of no line.
 abbrev pub too_long : List ℕ
 too_long = reply_text 0 (Err (fault.Call ShortMemory))
 
--- What comes of an input, with what is lent to its calls: the state that the session has come to, what is
--- left in the buffers, and the text put behind what was written before. Input that is too long is no session.
-abbrev pub Served : Lent → List ℕ → State → Buffers → Buffers → List ℕ → List ℕ → Type 0
-Served lent input state old new before written =
+-- What comes of an input, with what is lent to its calls: what the memory under the store holds, the state
+-- that the session has come to, what is left in the buffers, and the text put behind what was written before.
+-- Input that is too long is no session.
+abbrev pub Served : Lent → List ℕ → (List Event → Type 0) → State → Buffers → Buffers → List ℕ → List ℕ → Type 0
+Served lent input holds state old new before written =
     MatchBool (nat_lt input_limit (length input))
     ((written ≡ before ++ too_long) × (state ≡ unmade) × (new ≡ old))
-    (SessionText lent input state old new before written)
+    (SessionText lent input holds state old new before written)
 
 -- The text of a reply takes no more bytes.
 abbrev pub reply_limit : ℕ

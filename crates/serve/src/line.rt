@@ -1,10 +1,11 @@
 // The reply to a line of an input.
-ghost use Rattle.std.specs.Prelude.{◌≡◌, List, ◌++◌, Err, IfErr};
+ghost use Rattle.std.specs.Prelude.{◌≡◌, ℕ, List, ◌++◌, Err, IfErr};
 ghost use Rattle.model.specs.Model.{Lent, Room};
 ghost use Rattle.workspace.specs.Parts.{buffers, sizes_of, SameMemory, Untouched};
 ghost use Rattle.law.specs.Law.{Event, Sound};
 ghost use Rattle.frames.specs.Frames.{request};
 ghost use Rattle.session.specs.Kept.{state_reached};
+ghost use Rattle.session.specs.Held.{HoldsAfter};
 ghost use Rattle.session.specs.Calls.{lent_at};
 ghost use Rattle.serve.specs.Served.{IsReplyTo, Exactly, events_at, left_after};
 ghost use Rattle.serve.specs.Progress.{reply_in, as_call};
@@ -37,6 +38,12 @@ pub(crate) fn answer<S: Editable>(
         → Sound events (state_reached S.graph S.most session)
         → Sound (events ++ events_at (lent_at room workspace.old) (request line.now) (reply_in result.1 (buffers workspace.new)))
         (state_reached S.graph S.most result.0) }
+    ensures held { (room : Room) (fresh : ℕ → List ℕ) (events : List Event)
+        → IfErr session (λ m. (S.room_in m ≡ room) × (S.fresh m ≡ fresh))
+        → Sound events (state_reached S.graph S.most session)
+        → HoldsAfter S.held fresh S.with_edge_in S.without_edge_in session events
+        → HoldsAfter S.held fresh S.with_edge_in S.without_edge_in result.0
+        (events ++ events_at (lent_at room workspace.old) (request line.now) (reply_in result.1 (buffers workspace.new))) }
     ensures reply { IsReplyTo (request line.now) (reply_in result.1 (buffers workspace.new)) }
     ensures exact { Exactly (reply_in result.1 (buffers workspace.new)) }
     ensures left { (lent : Lent)

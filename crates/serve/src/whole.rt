@@ -2,6 +2,7 @@
 ghost use Rattle.std.specs.Prelude.{◌≡◌, ◌+◌, ◌<◌, ◌≤◌, length, Err, IfOk, IfErr, IsOk, vec_len, vec_capacity};
 ghost use Rattle.workspace.specs.Parts.{buffers, sizes_of, SameMemory, Untouched};
 ghost use Rattle.session.specs.Kept.{state_reached};
+ghost use Rattle.session.specs.Held.{HoldsAfter};
 ghost use Rattle.session.specs.Calls.{lent_at};
 ghost use Rattle.serve.specs.Served.{input_limit, SessionText, BrokenOff, Served, text_limit};
 
@@ -25,8 +26,10 @@ fn answer_all<S: Editable>(
     out: &mut Vec<u8>,
 ) -> (Result<Planner<S>, S::Memory>, Result<(), AllocError>)
     ensures answered { IfOk result.1 (λ _. SessionText (lent_at (S.room_in memory) workspace.old) input.now
+        (HoldsAfter S.held (S.fresh memory) S.with_edge_in S.without_edge_in result.0)
         (state_reached S.graph S.most result.0) (buffers workspace.old) (buffers workspace.new) out.old.items out.new.items) }
     ensures broken { IfErr result.1 (λ _. BrokenOff (lent_at (S.room_in memory) workspace.old) input.now
+        (HoldsAfter S.held (S.fresh memory) S.with_edge_in S.without_edge_in result.0)
         (state_reached S.graph S.most result.0) (buffers workspace.old) (buffers workspace.new)) }
     ensures back { IfErr result.0 (λ m. m ≡ memory) }
     ensures untouched { Untouched workspace.old workspace.new }
@@ -56,9 +59,11 @@ pub fn serve<S: Editable>(
     out: &mut Vec<u8>,
 ) -> (Result<Planner<S>, S::Memory>, Result<(), AllocError>)
     ensures served { IfOk result.1 (λ _. Served (lent_at (S.room_in memory) workspace.old) input.now
+        (HoldsAfter S.held (S.fresh memory) S.with_edge_in S.without_edge_in result.0)
         (state_reached S.graph S.most result.0) (buffers workspace.old) (buffers workspace.new) out.old.items out.new.items) }
     // Without memory for all of the text, the session is that of the lines up to there.
     ensures broken { IfErr result.1 (λ _. BrokenOff (lent_at (S.room_in memory) workspace.old) input.now
+        (HoldsAfter S.held (S.fresh memory) S.with_edge_in S.without_edge_in result.0)
         (state_reached S.graph S.most result.0) (buffers workspace.old) (buffers workspace.new)) }
     ensures long { input_limit < length input.now → result.0 ≡ Err memory }
     ensures back { IfErr result.0 (λ m. m ≡ memory) }

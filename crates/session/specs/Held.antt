@@ -4,6 +4,7 @@
 --   held_next       what it holds after a call
 --   held_through    after the calls of events
 --   Holds           what it holds, once a session has come to a planner
+--   HoldsAfter      it holds what the calls of events leave there
 --   HoldsChanged    what it held before a step of a session, it holds after it, with that change
 use Rattle.std.specs.Prelude.{◌≡◌, ℕ, List, [], ◌∷◌, Result, IfOk}
 use Rattle.graph.specs.Graph.{Graph}
@@ -35,6 +36,11 @@ held_through fresh laid taken s (e ∷ es) held =
 -- the memory of a store holds. Nothing is said of memory that waits for a make.
 abbrev pub Holds : {S M : Type 0} → (S → List ℕ) → Result (Planner S) M → List ℕ → Type 0
 Holds held session xs = IfOk session (λ p. held_of held p ≡ xs)
+
+-- From memory that waited for a make, a session of these events has come to what they leave in it.
+abbrev pub HoldsAfter : {S M : Type 0} → (S → List ℕ) → (fresh : ℕ → List ℕ) (laid taken : Graph → List ℕ → ℕ → ℕ → List ℕ)
+    → Result (Planner S) M → List Event → Type 0
+HoldsAfter held fresh laid taken session events = Holds held session (held_through fresh laid taken unmade events [])
 
 -- What the memory held before a step of a session, it holds after it, with that change.
 abbrev pub HoldsChanged : {S M : Type 0} → (S → List ℕ) → Result (Planner S) M → Result (Planner S) M → (List ℕ → List ℕ) → Type 0

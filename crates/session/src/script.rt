@@ -10,7 +10,7 @@ ghost use Rattle.workspace.specs.Parts.{buffers, sizes_of, SameMemory, Untouched
 ghost use Rattle.law.specs.Told.{said, left_by};
 ghost use Rattle.law.specs.Law.{Right, Event, event, Sound};
 ghost use Rattle.session.specs.Kept.{state_reached};
-ghost use Rattle.session.specs.Held.{held_next, held_through, Holds, HoldsChanged};
+ghost use Rattle.session.specs.Held.{held_next, Holds, HoldsAfter, HoldsChanged};
 ghost use Rattle.session.specs.Calls.{lent_at, said_in};
 ghost use Rattle.session.specs.Script.{event_of, events_of, Answered, WrittenOnly};
 
@@ -119,8 +119,8 @@ pub fn play<S: Editable>(
     script: &mut [Asked<'_>],
 ) -> Result<Planner<S>, S::Memory>
     ensures law { Sound (events_of (S.room_in memory) script.old script.new) (state_reached S.graph S.most result) }
-    ensures held { Holds S.held result
-        (held_through (S.fresh memory) S.with_edge_in S.without_edge_in unmade (events_of (S.room_in memory) script.old script.new) []) }
+    ensures held { HoldsAfter S.held (S.fresh memory) S.with_edge_in S.without_edge_in result
+        (events_of (S.room_in memory) script.old script.new) }
     ensures written { WrittenOnly script.old script.new }
     ensures back { IfErr result (λ m. m ≡ memory) }
 {

@@ -3,16 +3,14 @@ use Rattle.std.proofs.lemmas.Result.{IfErr-weaker}
 use Rattle.model.specs.declared.sizes.Sizes.{Sizes}
 use Rattle.model.specs.Model.{lent_of}
 use Rattle.workspace.specs.Parts.{buffers}
-use Rattle.law.specs.Law.{Sound}
-use Rattle.frames.specs.Frames.{request}
 use Rattle.frames.specs.Text.{Reported, reply_text}
 use Rattle.session.specs.Kept.{state_reached}
+use Rattle.session.specs.Held.{HoldsAfter}
 use Rattle.session.specs.Calls.{lent_at}
 use Rattle.session.proofs.Scripts.{back_again}
 use Rattle.serve.specs.declared.lines.Lines.{Lines}
-use Rattle.serve.specs.Served.{events_at}
 use Rattle.serve.specs.Progress.{reply_in}
-use Rattle.serve.proofs.Turns.{written_as, untouched_next, same_next, short_reply, so_far_none, so_far_next, broken_next}
+use Rattle.serve.proofs.Turns.{Goes, Leaves, written_as, untouched_next, same_next, short_reply, so_far_none, so_far_next, broken_next}
 use Rattle.serve.proofs.whole.answer_all.Goals as goal
 
 -- No line is answered yet.
@@ -24,7 +22,7 @@ loop-line-init g c =
     let none = ap (λ (ls : Lines). ls.taken) begun ∙ c.of-line-items.ensures.none in
     let all = ap (λ (ls : Lines). ls.rest.now) begun ∙ c.of-line-items.ensures.all in
     record {
-      so_far = so_far_none lent input c.into_iter-line-iterator.result (buffers c.args.workspace.now) (vec_items c.args.out.now) none all;
+      so_far = so_far_none lent input c.into_iter-line-iterator.result (buffers c.args.workspace.now) (vec_items c.args.out.now) none all tt;
       back = refl;
       untouched = (refl, refl, refl, refl, refl);
       memory = (refl, refl, refl, refl, refl, refl, refl, refl);
@@ -45,13 +43,22 @@ loop-line-preserved g c =
     let r = reply_in reply now in
     let next = state_reached g.S.Map.graph g.S.Editable.most c.answer-next.result.0 in
     let takes = c.in-Some.ensures.steps in
+    let was = state_reached g.S.Map.graph g.S.Editable.most c.loop-line.session in
     let waits = IfErr-weaker c.loop-line.session _ _ (λ m e. ap g.S.Editable.room_in e) inv.back in
+    let waits_fresh = IfErr-weaker c.loop-line.session _ _ (λ m e. (ap g.S.Editable.room_in e, ap g.S.Editable.fresh e)) inv.back in
+    let fresh = g.S.Editable.fresh c.args.memory in
+    let laid = g.S.Editable.with_edge_in in
+    let taken = g.S.Editable.without_edge_in in
+    let holds = HoldsAfter g.S.Editable.held fresh laid taken c.loop-line.session in
+    let holds' = HoldsAfter g.S.Editable.held fresh laid taken c.answer-next.result.0 in
     record {
       so_far = so_far_next (lent_at room c.args.workspace.now) c.args.input.now
-          (state_reached g.S.Map.graph g.S.Editable.most c.loop-line.session) next
+          was next
           c.loop-line.line-iterator l c.next.new.self (buffers c.args.workspace.now) (buffers c.loop-line.workspace) now
           (vec_items c.args.out.now) w (vec_items c.write_reply.new.out) r takes inv.so_far
-          (λ events sound. subst (λ (z : Sizes). Sound (events ++ events_at (lent_of room z) (request l.text.now) r) next) inv.sizes (c.answer-next.ensures.law room events waits sound))
+          (subst (λ (z : Sizes). Goes (lent_of room z) was l.text.now r next) inv.sizes (λ events. c.answer-next.ensures.law room events waits))
+          (subst (λ (z : Sizes). Leaves (lent_of room z) was l.text.now r holds holds') inv.sizes
+          (λ events. c.answer-next.ensures.held room fresh events waits_fresh))
           c.answer-next.ensures.reply c.answer-next.ensures.exact (c.answer-next.ensures.left (lent_at room c.args.workspace.now))
           (c.in_default.ensures.items ∙ ap (λ (x : Reported). w ++ reply_text l.number x) (sym (written_as reply now)));
       back = back_again c.answer-next.result.0 c.loop-line.session c.args.memory c.answer-next.ensures.back inv.back;
@@ -71,10 +78,19 @@ returns-in-Err-clause-broken g c =
     let now = buffers c.answer-next.new.workspace in
     let r = reply_in c.answer-next.result.1 now in
     let next = state_reached g.S.Map.graph g.S.Editable.most c.answer-next.result.0 in
+    let was = state_reached g.S.Map.graph g.S.Editable.most c.loop-line.session in
     let waits = IfErr-weaker c.loop-line.session _ _ (λ m e. ap g.S.Editable.room_in e) inv.back in
+    let waits_fresh = IfErr-weaker c.loop-line.session _ _ (λ m e. (ap g.S.Editable.room_in e, ap g.S.Editable.fresh e)) inv.back in
+    let fresh = g.S.Editable.fresh c.args.memory in
+    let laid = g.S.Editable.with_edge_in in
+    let taken = g.S.Editable.without_edge_in in
+    let holds = HoldsAfter g.S.Editable.held fresh laid taken c.loop-line.session in
+    let holds' = HoldsAfter g.S.Editable.held fresh laid taken c.answer-next.result.0 in
     broken_next (lent_at room c.args.workspace.now) c.args.input.now
-    (state_reached g.S.Map.graph g.S.Editable.most c.loop-line.session) next
+    was next
     c.loop-line.line-iterator l c.next.new.self (buffers c.args.workspace.now) (buffers c.loop-line.workspace) now
     (vec_items c.args.out.now) (vec_items c.loop-line.out) r c.in-Some.ensures.steps inv.so_far
-    (λ events sound. subst (λ (z : Sizes). Sound (events ++ events_at (lent_of room z) (request l.text.now) r) next) inv.sizes (c.answer-next.ensures.law room events waits sound))
+    (subst (λ (z : Sizes). Goes (lent_of room z) was l.text.now r next) inv.sizes (λ events. c.answer-next.ensures.law room events waits))
+    (subst (λ (z : Sizes). Leaves (lent_of room z) was l.text.now r holds holds') inv.sizes
+    (λ events. c.answer-next.ensures.held room fresh events waits_fresh))
     c.answer-next.ensures.reply c.answer-next.ensures.exact (c.answer-next.ensures.left (lent_at room c.args.workspace.now))
