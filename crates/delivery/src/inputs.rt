@@ -7,6 +7,7 @@ ghost use Rattle.serve.specs.Served.{input_limit, BrokenOff, Served, text_limit}
 ghost use Rattle.grid.specs.Meaning as grid_meaning;
 ghost use Rattle.list.specs.Meaning as list_meaning;
 ghost use Rattle.delivery.specs.Rooms.{grid_room, list_room};
+ghost use Rattle.delivery.specs.Held.{GridHolds, ListHolds};
 
 use grid::Grid;
 use list::List;
@@ -27,10 +28,10 @@ pub fn over_grid<'a>(
     Result<(), AllocError>,
 )
     ensures served { IfOk result.1 (λ _. Served (lent_at (grid_room words.old) workspace.old) input.now
-        (state_reached grid_meaning.graph_of grid_meaning.capacity_of result.0)
+        (GridHolds words.old result.0) (state_reached grid_meaning.graph_of grid_meaning.capacity_of result.0)
         (buffers workspace.old) (buffers workspace.new) out.old.items out.new.items) }
     ensures broken { IfErr result.1 (λ _. BrokenOff (lent_at (grid_room words.old) workspace.old) input.now
-        (state_reached grid_meaning.graph_of grid_meaning.capacity_of result.0)
+        (GridHolds words.old result.0) (state_reached grid_meaning.graph_of grid_meaning.capacity_of result.0)
         (buffers workspace.old) (buffers workspace.new)) }
     ensures long { input_limit < length input.now → result.0 ≡ Err words.entry }
     ensures back { IfErr result.0 (λ m. m ≡ words.entry) }
@@ -54,10 +55,10 @@ pub fn over_list<'a>(
     Result<(), AllocError>,
 )
     ensures served { IfOk result.1 (λ _. Served (lent_at (list_room cells.old) workspace.old) input.now
-        (state_reached list_meaning.graph_of list_meaning.capacity_of result.0)
+        (ListHolds cells.old result.0) (state_reached list_meaning.graph_of list_meaning.capacity_of result.0)
         (buffers workspace.old) (buffers workspace.new) out.old.items out.new.items) }
     ensures broken { IfErr result.1 (λ _. BrokenOff (lent_at (list_room cells.old) workspace.old) input.now
-        (state_reached list_meaning.graph_of list_meaning.capacity_of result.0)
+        (ListHolds cells.old result.0) (state_reached list_meaning.graph_of list_meaning.capacity_of result.0)
         (buffers workspace.old) (buffers workspace.new)) }
     ensures long { input_limit < length input.now → result.0 ≡ Err cells.entry }
     ensures back { IfErr result.0 (λ m. m ≡ cells.entry) }

@@ -6,6 +6,7 @@ ghost use Rattle.session.specs.Script.{events_of, WrittenOnly};
 ghost use Rattle.grid.specs.Meaning as grid_meaning;
 ghost use Rattle.list.specs.Meaning as list_meaning;
 ghost use Rattle.delivery.specs.Rooms.{grid_room, list_room};
+ghost use Rattle.delivery.specs.Held.{GridHolds, ListHolds};
 
 use grid::Grid;
 use list::List;
@@ -18,6 +19,7 @@ pub fn play_on_grid<'a>(
 ) -> Result<Planner<Grid<'a>>, &'a mut [u64]>
     ensures law { Sound (events_of (grid_room words.old) script.old script.new)
         (state_reached grid_meaning.graph_of grid_meaning.capacity_of result) }
+    ensures held { GridHolds words.old result (events_of (grid_room words.old) script.old script.new) }
     ensures written { WrittenOnly script.old script.new }
     ensures back { IfErr result (λ m. m ≡ words.entry) }
 {
@@ -31,6 +33,7 @@ pub fn play_on_list<'a>(
 ) -> Result<Planner<List<'a>>, &'a mut [u16]>
     ensures law { Sound (events_of (list_room cells.old) script.old script.new)
         (state_reached list_meaning.graph_of list_meaning.capacity_of result) }
+    ensures held { ListHolds cells.old result (events_of (list_room cells.old) script.old script.new) }
     ensures written { WrittenOnly script.old script.new }
     ensures back { IfErr result (λ m. m ≡ cells.entry) }
 {
