@@ -145,10 +145,10 @@ broken_none : {holds : List Event → Type 0} (lent : Lent) (input : List ℕ) (
 broken_none lent input b held = record { asked = []; unasked = lines input; in_order = refl; replies = []; answered = dialogue_none lent b held }
 
 -- So it is after an error, where no line was looked at.
-pub broken_failed : {A E : Type 0} {holds : List Event → Type 0} (lent : Lent) (input : List ℕ) (b : Buffers) (r : Result A E) → holds []
+pub broken_failed : {A E : Type 0} (holds : List Event → Type 0) (lent : Lent) (input : List ℕ) (b : Buffers) (r : Result A E) → holds []
     → IfErr r (λ _. BrokenOff lent input holds unmade b b)
-broken_failed lent input b (Ok a) held = tt
-broken_failed lent input b (Err e) held = broken_none lent input b held
+broken_failed holds lent input b (Ok a) held = tt
+broken_failed holds lent input b (Err e) held = broken_none lent input b held
 
 -- At the beginning.
 pub so_far_none : {holds : List Event → Type 0} (lent : Lent) (input : List ℕ) (ls : Lines) (b : Buffers) (before : List ℕ)

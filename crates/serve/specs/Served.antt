@@ -58,7 +58,7 @@ Exactly (Err f) = Unit {0}
 
 -- Each line has its reply.
 abbrev pub Replied : List (List ℕ) → List Reply → Type 0
-Replied ls rs = AllZip (λ l r. IsReplyTo (request l) r × Exactly r) ls rs
+Replied ls rs = AllZip (λ line r. IsReplyTo (request line) r × Exactly r) ls rs
 
 -- A call and what was said to it; a line that asks for none is no event.
 abbrev pub events_at : Lent → Result Call FrameFault → Reply → List Event
@@ -70,7 +70,7 @@ events_at lent (Err f) r = []
 unfoldable pub events_of : Lent → List (List ℕ) → List Reply → List Event
 events_of lent [] rs = []
 events_of lent (l ∷ ls) [] = []
-events_of lent (l ∷ ls) (r ∷ rs) = events_at lent (request l) r ++ events_of lent ls rs
+events_of lent (line ∷ ls) (r ∷ rs) = events_at lent (request line) r ++ events_of lent ls rs
 
 -- What the events told stands in front in the buffers, each after those before it, and all else is as it was.
 unfoldable pub left_after : List Event → Buffers → Buffers
