@@ -1,4 +1,5 @@
-// Scripts of calls over each store, and memory that comes back.
+// Scripts of calls over each store, written out where they are played: an array of them by value is a form
+// that the borrow checker does not cover. And memory that comes back.
 use claims::check;
 use delivery::{over_grid, play_on_grid, play_on_list};
 use model::{Answer, Call, Refusal};
@@ -15,17 +16,7 @@ fn asked(call: Call) -> Asked<'static> {
     }
 }
 
-// A join before the make, the make, a join and the same join again.
-fn joins() -> [Asked<'static>; 4] {
-    [
-        asked(Call::Join(0, 1)),
-        asked(Call::Make(3)),
-        asked(Call::Join(0, 1)),
-        asked(Call::Join(1, 0)),
-    ]
-}
-
-// They were answered as they should be.
+// A join before the make, the make, a join and the same join again were answered as they should be.
 fn answered(script: &[Asked<'_>]) -> Result<(), Fail> {
     check(script.len() == 4)?;
     check(script[0].reply == Err(Refusal::OutOfTurn))?;
@@ -36,7 +27,12 @@ fn answered(script: &[Asked<'_>]) -> Result<(), Fail> {
 
 #[test]
 fn a_script_over_a_grid() -> Result<(), Fail> {
-    let mut script = joins();
+    let mut script = [
+        asked(Call::Join(0, 1)),
+        asked(Call::Make(3)),
+        asked(Call::Join(0, 1)),
+        asked(Call::Join(1, 0)),
+    ];
     let mut words = [7u64; 12];
     check(play_on_grid(&mut words, &mut script).is_ok())?;
     answered(&script)
@@ -44,7 +40,12 @@ fn a_script_over_a_grid() -> Result<(), Fail> {
 
 #[test]
 fn a_script_over_a_list() -> Result<(), Fail> {
-    let mut script = joins();
+    let mut script = [
+        asked(Call::Join(0, 1)),
+        asked(Call::Make(3)),
+        asked(Call::Join(0, 1)),
+        asked(Call::Join(1, 0)),
+    ];
     let mut cells = [7u16; 3];
     check(play_on_list(&mut cells, &mut script).is_ok())?;
     answered(&script)
