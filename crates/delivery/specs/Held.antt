@@ -4,7 +4,7 @@
 --   ListHolds   cells as a list
 use Rattle.std.specs.Prelude.{ℕ, true, false, List, Result}
 use Rattle.law.specs.Law.{Event}
-use Rattle.session.specs.declared.Planner.{Planner}
+use Rattle.session.specs.declared.planner.Planner.{Planner}
 use Rattle.session.specs.Held.{HoldsAfter}
 use Rattle.grid.specs.Rows.{wiped, edge_words}
 use Rattle.grid.specs.declared.Grid.{Grid}

@@ -4,7 +4,7 @@ use Rattle.graph.specs.Graph.{Graph}
 use Rattle.model.specs.Model.{State, unmade}
 use Rattle.model.specs.After.{after}
 use Rattle.law.specs.Law.{Event, after_all, Sound}
-use Rattle.session.specs.declared.Planner.{Planner}
+use Rattle.session.specs.declared.planner.Planner.{Planner}
 use Rattle.session.specs.Held.{held_next, held_through, Holds}
 
 module _ (fresh : ℕ → List ℕ) (laid taken : Graph → List ℕ → ℕ → ℕ → List ℕ) where

@@ -16,7 +16,7 @@ use Rattle.model.specs.After.{after}
 use Rattle.law.specs.Law.{Event}
 use Rattle.store.specs.Change.{held_after}
 use Rattle.strike.specs.Kept.{memory_after}
-use Rattle.session.specs.declared.Planner.{Planner}
+use Rattle.session.specs.declared.planner.Planner.{Planner}
 use Rattle.session.specs.Kept.{held_of}
 
 -- What the memory holds after a call: an accepted make leaves a map with no edge, a call on a map that

@@ -10,7 +10,7 @@ use Rattle.std.specs.Prelude.{ℕ, List, Ok, Err, Result}
 use Rattle.graph.specs.Graph.{Graph}
 use Rattle.model.specs.Model.{Model, State, unmade, made, in_force}
 use Rattle.strike.specs.Kept.{kept, held_under}
-use Rattle.session.specs.declared.Planner.{Planner}
+use Rattle.session.specs.declared.planner.Planner.{Planner}
 
 abbrev pub model_of : {S : Type 0} → (S → Graph) → (S → ℕ) → Planner S → Model
 model_of graph most p = kept graph most p.pile.map.map

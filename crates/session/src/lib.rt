@@ -13,25 +13,19 @@ ghost use Rattle.session.specs.Calls.{AcceptedMake, Opened};
 
 mod calls;
 mod pairs;
+mod planner;
 mod refused;
 mod script;
 
 pub use calls::perform;
 use model::Vertex;
 use plan::{Line, Split};
+pub use planner::Planner;
 pub use refused::Refused;
 use rows::marks::Marks;
 pub use script::{Asked, play, respond};
 use store::{Editable, Map};
 use strike::Strike;
-
-// The map of a session, one pile for its whole life: a store, over it the edges that are struck,
-// over these the map as a plan of edges, and over that one as a plan of vertices. Edits go down
-// through it and both plans read it, so nothing is copied or built anew.
-#[derive(Drop)]
-pub struct Planner<S> {
-    pile: Split<Line<Strike<S>>>,
-}
 
 // As a map, a planner is the graph in force. The questions are passed on one by one: no form of
 // the language passes a trait on to a field.

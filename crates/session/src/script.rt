@@ -2,7 +2,7 @@
 // make, or the planner that took it.
 ghost use Rattle.std.specs.Prelude.{◌≡◌, ℕ, false, List, [], ◌∷◌, ◌++◌, is_ok, Err, IfErr};
 ghost use Rattle.model.specs.declared.sizes.Sizes.{Sizes};
-ghost use Rattle.model.specs.Kinds.{is_question};
+ghost use Rattle.model.specs.Kinds.{is_make, is_edit, is_question};
 ghost use Rattle.model.specs.Model.{Room, lent_of, unmade};
 ghost use Rattle.model.specs.After.{after};
 ghost use Rattle.workspace.specs.Buffers.{Buffers};
@@ -40,6 +40,7 @@ fn begin<S: Editable>(
     ensures held { (sizes : Sizes) (xs : List ℕ)
         → Holds S.held result.0 (held_next (S.fresh memory) S.with_edge_in S.without_edge_in (lent_of (S.room_in memory) sizes) unmade call xs) }
     ensures written { (b : Buffers) → b ≡ left_by (said result.1 b) b }
+    ensures no_make { is_make call ≡ false → result.0 ≡ Err memory }
     ensures refused { is_ok result.1 ≡ false → result.0 ≡ Err memory }
     ensures back { IfErr result.0 (λ m. m ≡ memory) }
 {
@@ -76,6 +77,8 @@ pub fn respond<S: Editable>(
         (held_next fresh S.with_edge_in S.without_edge_in (lent_at room workspace.old) (state_reached S.graph S.most session) call) }
     ensures written { buffers workspace.new ≡ left_by (said_in result.1 workspace.new) (buffers workspace.old) }
     ensures edit { is_question call ≡ false → Untouched workspace.old workspace.new }
+    // Only a make or an edit changes what a session keeps.
+    ensures question { is_make call ≡ false → is_edit call ≡ false → result.0 ≡ session }
     ensures refused { is_ok result.1 ≡ false → (result.0 ≡ session) × Untouched workspace.old workspace.new }
     ensures back { IfErr result.0 (λ m. session ≡ Err m) }
     ensures memory { SameMemory workspace.old workspace.new }

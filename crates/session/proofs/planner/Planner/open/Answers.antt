@@ -7,7 +7,7 @@ use Rattle.model.specs.declared.call.Call.TheVariants.{Make}
 use Rattle.law.specs.Told.{plain}
 use Rattle.law.specs.Law.{event, Sound}
 use Rattle.law.proofs.Events.{begun_lem}
-use Rattle.session.proofs.Planner.open.Goals as goal
+use Rattle.session.proofs.planner.Planner.open.Goals as goal
 
 -- Where a make is accepted, it begins a session.
 pub returns-clause-opened : goal.returns-clause-opened
