@@ -111,7 +111,7 @@ pub(crate) fn planned<S: Editable>(
     edges: &[Edge],
     memory: S::Memory,
 ) -> Result<Planner<S>, Fail> {
-    let mut planner = Planner::<S>::open(n, memory).map_err(|refused| refused.0)?;
+    let mut planner = Planner::<S>::open(n, memory).map_err(|refused| refused.refusal)?;
     for e in edges {
         perform(
             &mut planner,

@@ -1,5 +1,5 @@
 // Tests of what a planner says of pairs of vertices: values and nearest cuts of the check maps and
-// of random small ones, and refusals, over each store.
+// of random small ones, and refusals, over each store; and of a script of calls, played over any store.
 #![tactic(auto)]
 
 #[cfg(test)]

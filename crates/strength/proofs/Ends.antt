@@ -14,9 +14,9 @@ same_rounds g δ i (a ∷ bs) runs =
     ap (λ (x : List Run). cond (leb (i + 3) δ && leb i (least_value g.order runs)) x runs)
     (same_rounds g δ (suc i) bs (runs ++ near_runs g a (take (δ - 1 - i) bs)))
 
--- So the strength is the same.
+-- So the runs are the same, and the strength that they give.
 pub right_ends_lem : RightEnds
 unfolding vertex_runs
-right_ends_lem g h =
-    ap (least_value g.order) (same_rounds g (least_degree g) 1 (neighbours g (sparsest g)) (far_runs g (sparsest g)))
-    ∙ sym (ap (λ (c : Computed ℕ). c.strength) (computed_runs g h))
+right_ends_lem g =
+    let same = same_rounds g (least_degree g) 1 (neighbours g (sparsest g)) (far_runs g (sparsest g)) in
+    (same, λ h. ap (least_value g.order) same ∙ sym (ap (λ (c : Computed ℕ). c.strength) (computed_runs g h)))

@@ -6,14 +6,14 @@
 --   seven                                                       a map of seven vertices
 --   GivesConnectivity                                           a computation is right on every graph
 --   VariantsRefuted, SevenRefutes, HubRefutes, NearEndRefuted   what is wrong, and where
---   RightEnds                                                   the rounds with the right ends are those of the computation
+--   RightEnds                                                   the rounds with the right ends are the runs of the computation
 use Rattle.std.specs.Prelude.{◌≡◌, ℕ, suc, ◌+◌, ◌-◌, ◌<◌, ◌≤◌, true, false, cond, not, ◌&&◌, List, [], ◌∷◌, ◌++◌, take, filter, ◌≢◌, nat_le}
 use Rattle.graph.specs.Graph.{Graph, Simple}
 use Rattle.flows.specs.Lists.{upto, any, among}
 use Rattle.cuts.specs.declared.run.Run.{Run}
 use Rattle.cuts.specs.Edges.{edge, side, without_vertices}
 use Rattle.cuts.specs.Cuts.{vertex_connectivity, nearest_vertex_cut, is_vertex_cut, complete}
-use Rattle.cuts.specs.Computations.{least_degree, sparsest, neighbours, least_value, far_runs, near_runs, vertex_computation}
+use Rattle.cuts.specs.Computations.{least_degree, sparsest, neighbours, least_value, far_runs, near_runs, vertex_runs, vertex_computation}
 use Rattle.cuts.specs.Maps.{graph_of, cliques_and_hub}
 
 -- Stopping after the runs from r.
@@ -59,10 +59,13 @@ VariantsRefuted =
     × (GivesConnectivity (strength_with 3 2) → ⊥)
     × (GivesConnectivity (strength_with 4 1) → ⊥)
 
--- With the right ends, i up to δ − 3 and j up to δ − 1, the same rounds give the strength of the
--- computation.
+-- With the right ends, i up to δ − 3 and j up to δ − 1, the same rounds are the runs of the computation, and
+-- give its strength.
 abbrev pub RightEnds : Type 0
-RightEnds = (g : Graph) → complete g ≡ false → strength_with 3 1 g ≡ (vertex_computation g).strength
+RightEnds =
+    (g : Graph)
+    → (rounds_with 3 1 g (least_degree g) 1 (neighbours g (sparsest g)) (far_runs g (sparsest g)) ≡ vertex_runs g)
+    × (complete g ≡ false → strength_with 3 1 g ≡ (vertex_computation g).strength)
 
 -- Where stopping after r's runs is wrong: the map of seven vertices, and two cliques with a hub.
 abbrev pub SevenRefutes : Type 0

@@ -108,7 +108,7 @@ pub fn variants_refuted()
     ensures { VariantsRefuted }
 {}
 
-// With the right ends the rounds of these variants are those of the computation.
+// With the right ends the rounds of these variants are the runs of the computation, and give its strength.
 pub fn right_ends()
     ensures { RightEnds }
 {}
