@@ -27,7 +27,7 @@ fn as_call(reply: Result<Answer, Refusal>) -> Result<Answer, SessionFault>
 }
 
 // Answers a line: the call that it asks for is made, or its fault is told.
-#[tactic(auto, using(crate::proofs::Turns::left_call, crate::proofs::Turns::left_fault))]
+#[tactic(auto, using(crate::proofs::Turns::left_fault))]
 pub(crate) fn answer<S: Editable>(
     session: Result<Planner<S>, S::Memory>,
     workspace: &mut Workspace<'_>,

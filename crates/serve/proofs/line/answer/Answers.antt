@@ -14,7 +14,7 @@ use Rattle.session.specs.Calls.{lent_at}
 use Rattle.session.proofs.Held.{held_more}
 use Rattle.serve.specs.Served.{events_at}
 use Rattle.serve.specs.Progress.{reply_in}
-use Rattle.serve.proofs.Turns.{event_of_call}
+use Rattle.serve.proofs.Turns.{event_of_call, left_call}
 use Rattle.serve.proofs.line.answer.Goals as goal
 
 -- The memory under the store holds what the call's one event leaves in it.
@@ -32,6 +32,14 @@ returns-in-Ok-clause-held g c room fresh events waits sound held =
     subst (λ (es : List Event). HoldsAfter g.S.Editable.held fresh laid taken next (events ++ es)) (sym one)
     (held_more fresh laid taken g.S.Editable.held next (state_reached g.S.Map.graph g.S.Editable.most c.args.session)
     events (event lent call (said r now)) [] sound (c.respond-next.ensures.held room fresh waits _ held))
+
+-- What the call told is left in the buffers.
+pub returns-in-Ok-clause-left : goal.returns-in-Ok-clause-left
+returns-in-Ok-clause-left g c lent =
+    let r = c.respond-next.result.1 in
+    let asks : request c.args.line.now ≡ Ok c.in-Ok.call = sym c.read_call.ensures ∙ c.in-Ok.is in
+    left_call lent c.args.line.now c.in-Ok.call r c.as_call.result (buffers c.args.workspace.now) (buffers c.respond-next.new.workspace)
+    asks c.as_call.ensures c.respond-next.ensures.written
 
 -- A line that asks for no call leaves it.
 pub returns-in-Err-clause-held : goal.returns-in-Err-clause-held
