@@ -1,5 +1,5 @@
 -- Replies as text: bytes in capital hexadecimal, one reply a line.
-use Rattle.std.specs.Prelude.{ℕ, ◌+◌, ◌/◌, ◌%◌, cond, List, [], ◌∷◌, ◌++◌, Ok, Err, Result, nat_lt}
+use Rattle.std.specs.Prelude.{◌≡◌, ℕ, ◌+◌, ◌/◌, ◌%◌, cond, List, [], ◌∷◌, ◌++◌, take, Ok, Err, Result, nat_lt}
 use Rattle.std.specs.List.{flat_map}
 use Rattle.model.specs.declared.call.Answer.{Answer}
 use Rattle.model.specs.Numbers.{answer_number, refusal_number}
@@ -35,3 +35,8 @@ reply_bytes line (Err f) =
 -- The text of a reply, with its line end.
 abbrev pub reply_text : ℕ → Reported → List ℕ
 reply_text line r = hex_text (reply_bytes line r) ++ (10 ∷ [])
+
+-- What was written before stands, and a front part of a text is put behind it: none of it, some, or all.
+pub record FrontPut (before text after : List ℕ) : Type 0 where
+  pub upto : ℕ
+  pub is : after ≡ before ++ take upto text

@@ -1,6 +1,6 @@
 // Replies as lines of capital hexadecimal.
-ghost use Rattle.std.specs.Prelude.{◌≡◌, ℕ, ◌+◌, ◌*◌, ◌<◌, ◌≤◌, List, [], ◌∷◌, ◌++◌, length, Err, OnOk, IsOk, vec_len, vec_capacity};
-ghost use Rattle.frames.specs.Text.{capital, hex_byte, hex_text, two_bytes, reply_bytes, reply_text};
+ghost use Rattle.std.specs.Prelude.{◌≡◌, ℕ, ◌+◌, ◌*◌, ◌<◌, ◌≤◌, List, [], ◌∷◌, ◌++◌, length, Err, OnOk, OnErr, IsOk, vec_len, vec_capacity};
+ghost use Rattle.frames.specs.Text.{capital, hex_byte, hex_text, two_bytes, reply_bytes, reply_text, FrontPut};
 
 use crate::fault::SessionFault;
 use model::Answer;
@@ -20,6 +20,7 @@ fn capital(d: u8) -> u8
 // Writes one byte. Not by `write!`, whose error on a `Vec<u8>` is none of the allocator's.
 fn write_byte(out: &mut Vec<u8>, b: u8) -> Result<(), AllocError>
     ensures items { OnOk result (out.new.items ≡ out.old.items ++ hex_byte b) }
+    ensures failed { OnErr result (out.new.items ≡ out.old.items) }
     ensures len { OnOk result (vec_len out.new ≡ vec_len out.old + 2) }
     ensures capacity { vec_capacity out.old ≤ vec_capacity out.new }
     ensures succeeds { vec_len out.old + 2 ≤ vec_capacity out.old → IsOk result }
@@ -30,6 +31,7 @@ fn write_byte(out: &mut Vec<u8>, b: u8) -> Result<(), AllocError>
 // Writes bytes one after the other.
 fn write_bytes(out: &mut Vec<u8>, bytes: &[u8]) -> Result<(), AllocError>
     ensures items { OnOk result (out.new.items ≡ out.old.items ++ hex_text bytes.now) }
+    ensures failed { OnErr result (FrontPut out.old.items (hex_text bytes.now) out.new.items) }
     ensures len { OnOk result (vec_len out.new ≡ vec_len out.old + 2 * length bytes.now) }
     ensures capacity { vec_capacity out.old ≤ vec_capacity out.new }
     ensures succeeds { vec_len out.old + 2 * length bytes.now ≤ vec_capacity out.old → IsOk result }
@@ -71,6 +73,7 @@ fn write_body(
     reply: Result<Answer, SessionFault>,
 ) -> Result<(), AllocError>
     ensures items { OnOk result (out.new.items ≡ out.old.items ++ hex_text (reply_bytes line reply)) }
+    ensures failed { OnErr result (FrontPut out.old.items (hex_text (reply_bytes line reply)) out.new.items) }
     ensures len { OnOk result (vec_len out.new ≡ vec_len out.old + 2 * length (reply_bytes line reply)) }
     ensures capacity { vec_capacity out.old ≤ vec_capacity out.new }
     ensures succeeds { vec_len out.old + 2 * length (reply_bytes line reply) ≤ vec_capacity out.old → IsOk result }
@@ -88,6 +91,8 @@ pub fn write_reply(
     reply: Result<Answer, SessionFault>,
 ) -> Result<(), AllocError>
     ensures items { OnOk result (out.new.items ≡ out.old.items ++ reply_text line reply) }
+    // Without memory for all of the text, a front part of it stands behind what was there.
+    ensures failed { OnErr result (FrontPut out.old.items (reply_text line reply) out.new.items) }
     ensures len { OnOk result (vec_len out.new ≡ vec_len out.old + length (reply_text line reply)) }
     ensures capacity { vec_capacity out.old ≤ vec_capacity out.new }
     ensures succeeds { vec_len out.old + length (reply_text line reply) ≤ vec_capacity out.old → IsOk result }
