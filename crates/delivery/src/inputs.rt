@@ -3,7 +3,7 @@ ghost use Rattle.std.specs.Prelude.{◌≡◌, ◌+◌, ◌<◌, ◌≤◌, leng
 ghost use Rattle.workspace.specs.Parts.{buffers, sizes_of, SameMemory, Untouched};
 ghost use Rattle.session.specs.Kept.{state_reached};
 ghost use Rattle.session.specs.Calls.{lent_at};
-ghost use Rattle.serve.specs.Served.{input_limit, BrokenOff, Served, text_limit};
+ghost use Rattle.serve.specs.Served.{input_limit, Served, Broken, text_limit};
 ghost use Rattle.grid.specs.Meaning as grid_meaning;
 ghost use Rattle.list.specs.Meaning as list_meaning;
 ghost use Rattle.delivery.specs.Rooms.{grid_room, list_room};
@@ -30,9 +30,9 @@ pub fn over_grid<'a>(
     ensures served { IfOk result.1 (λ _. Served (lent_at (grid_room words.old) workspace.old) input.now
         (GridHolds words.old result.0) (state_reached grid_meaning.graph_of grid_meaning.capacity_of result.0)
         (buffers workspace.old) (buffers workspace.new) out.old.items out.new.items) }
-    ensures broken { IfErr result.1 (λ _. BrokenOff (lent_at (grid_room words.old) workspace.old) input.now
+    ensures broken { IfErr result.1 (λ _. Broken (lent_at (grid_room words.old) workspace.old) input.now
         (GridHolds words.old result.0) (state_reached grid_meaning.graph_of grid_meaning.capacity_of result.0)
-        (buffers workspace.old) (buffers workspace.new)) }
+        (buffers workspace.old) (buffers workspace.new) out.old.items out.new.items) }
     ensures long { input_limit < length input.now → result.0 ≡ Err words.entry }
     ensures back { IfErr result.0 (λ m. m ≡ words.entry) }
     ensures untouched { Untouched workspace.old workspace.new }
@@ -57,9 +57,9 @@ pub fn over_list<'a>(
     ensures served { IfOk result.1 (λ _. Served (lent_at (list_room cells.old) workspace.old) input.now
         (ListHolds cells.old result.0) (state_reached list_meaning.graph_of list_meaning.capacity_of result.0)
         (buffers workspace.old) (buffers workspace.new) out.old.items out.new.items) }
-    ensures broken { IfErr result.1 (λ _. BrokenOff (lent_at (list_room cells.old) workspace.old) input.now
+    ensures broken { IfErr result.1 (λ _. Broken (lent_at (list_room cells.old) workspace.old) input.now
         (ListHolds cells.old result.0) (state_reached list_meaning.graph_of list_meaning.capacity_of result.0)
-        (buffers workspace.old) (buffers workspace.new)) }
+        (buffers workspace.old) (buffers workspace.new) out.old.items out.new.items) }
     ensures long { input_limit < length input.now → result.0 ≡ Err cells.entry }
     ensures back { IfErr result.0 (λ m. m ≡ cells.entry) }
     ensures untouched { Untouched workspace.old workspace.new }

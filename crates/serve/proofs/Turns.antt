@@ -1,5 +1,5 @@
 -- A session that is answered line by line.
-use Rattle.std.proofs.Common.{◌≡◌, ℕ, suc, ◌+◌, ◌≤◌, List, [], ◌∷◌, Some, ◌++◌, length, Ok, Err, IfErr, Result, sym, refl, ap, ap₂, ◌∙◌, subst, append_assoc, arith, length-append}
+use Rattle.std.proofs.Common.{◌≡◌, ℕ, suc, ◌+◌, ◌≤◌, List, [], ◌∷◌, Some, ◌++◌, length, Ok, Err, Result, sym, refl, ap, ap₂, ◌∙◌, subst, append_assoc, arith, length-append}
 use Rattle.std.proofs.lemmas.List.{append-nil}
 use Rattle.model.specs.declared.call.Answer.{Answer}
 use Rattle.model.specs.declared.call.Call.{Call}
@@ -13,7 +13,8 @@ use Rattle.law.specs.Law.{Event, event, Sound}
 use Rattle.law.proofs.Events.{not_begun_lem}
 use Rattle.frames.specs.declared.fault.FrameFault.{FrameFault}
 use Rattle.frames.specs.Frames.{request}
-use Rattle.frames.specs.Text.{Reported, reply_text}
+use Rattle.frames.specs.Text.{Reported, reply_text, FrontPut}
+use Rattle.frames.proofs.Fronts.{front_is}
 use Rattle.serve.specs.declared.lines.Line.{Line}
 use Rattle.serve.specs.declared.lines.Lines.{Lines}
 use Rattle.serve.specs.Lines.{lines}
@@ -140,16 +141,6 @@ dialogue_next {holds' = holds'} lent ls rs s s' old mid new l r d goes leaves fi
       left = step ∙ ap (left_after one) d.left ∙ sym (left_later es one old) ∙ ap (λ (xs : List Event). left_after xs old) more;
     }
 
--- Of an input whose first line is not answered.
-broken_none : {holds : List Event → Type 0} (lent : Lent) (input : List ℕ) (b : Buffers) → holds [] → BrokenOff lent input holds unmade b b
-broken_none lent input b held = record { asked = []; unasked = lines input; in_order = refl; replies = []; answered = dialogue_none lent b held }
-
--- So it is after an error, where no line was looked at.
-pub broken_failed : {A E : Type 0} (holds : List Event → Type 0) (lent : Lent) (input : List ℕ) (b : Buffers) (r : Result A E) → holds []
-    → IfErr r (λ _. BrokenOff lent input holds unmade b b)
-broken_failed holds lent input b (Ok a) held = tt
-broken_failed holds lent input b (Err e) held = broken_none lent input b held
-
 -- At the beginning.
 pub so_far_none : {holds : List Event → Type 0} (lent : Lent) (input : List ℕ) (ls : Lines) (b : Buffers) (before : List ℕ)
     → ls.taken ≡ 0 → ls.rest.now ≡ input → holds [] → SoFar lent input ls holds unmade b b before before
@@ -190,17 +181,24 @@ text_next before written rs r number h is =
     ∙ ap (λ (t : List ℕ). before ++ t) (sym (text_push 1 rs r))
 
 -- The text finds no memory after one line more.
-pub broken_next : {holds holds' : List Event → Type 0} (lent : Lent) (input : List ℕ) (s s' : State) (ls : Lines) (l : Line) (after : Lines) (old mid new : Buffers) (before written : List ℕ) (r : Reply)
+pub broken_next : {holds holds' : List Event → Type 0} (lent : Lent) (input : List ℕ) (s s' : State) (ls : Lines) (l : Line) (after : Lines) (old mid new : Buffers) (before written written' : List ℕ) (r : Reply)
     → Takes ls (Some l) after → SoFar lent input ls holds s old mid before written
     → Goes lent s l.text.now r s' → Leaves lent s l.text.now r holds holds' → IsReplyTo (request l.text.now) r → Exactly r → new ≡ left_after (events_at lent (request l.text.now) r) mid
-    → BrokenOff lent input holds' s' old new
-broken_next lent input s s' ls l after old mid new before written r takes h goes leaves fit exact step = record {
-  asked = h.asked ++ (l.text.now ∷ []);
-  unasked = left after;
-  in_order = order_next (lines input) h.asked l.text.now (left ls) (left after) h.in_order takes.0;
-  replies = h.replies ++ (r ∷ []);
-  answered = dialogue_next lent h.asked h.replies s s' old mid new l.text.now r h.answered goes leaves fit exact step;
-}
+    → FrontPut written (reply_text l.number (reported r)) written'
+    → BrokenOff lent input holds' s' old new before written'
+broken_next lent input s s' ls l after old mid new before written written' r takes h goes leaves fit exact step put =
+    let many = as_many h.asked h.replies h.answered.replied in
+    let number : l.number ≡ suc (length h.replies) = omega (arith, takes.1, h.counted, many) in
+    record {
+      asked = h.asked ++ (l.text.now ∷ []);
+      unasked = left after;
+      in_order = order_next (lines input) h.asked l.text.now (left ls) (left after) h.in_order takes.0;
+      whole = h.replies;
+      last = r;
+      answered = dialogue_next lent h.asked h.replies s s' old mid new l.text.now r h.answered goes leaves fit exact step;
+      text = front_is written (before ++ session_text 1 h.replies) (reply_text l.number (reported r)) (reply_text (suc (length h.replies)) (reported r)) written'
+          h.text (ap (λ (n : ℕ). reply_text n (reported r)) number) put;
+    }
 
 -- One line more is answered, and its reply is written.
 pub so_far_next : {holds holds' : List Event → Type 0} (lent : Lent) (input : List ℕ) (s s' : State) (ls : Lines) (l : Line) (after : Lines) (old mid new : Buffers) (before written written' : List ℕ) (r : Reply)

@@ -39,7 +39,8 @@ as_call (Ok a) = Ok a
 as_call (Err r) = Err (fault.Call r)
 
 -- The lines that were taken are answered, and their text is written.
-pub record SoFar (lent : Lent) (input : List ℕ) (ls : Lines) (holds : List Event → Type 0) (state : State) (old new : Buffers) (before written : List ℕ) : Type 0 where
+pub record SoFar (lent : Lent) (input : List ℕ) (ls : Lines) (holds : List Event → Type 0) (state : State)
+    (old new : Buffers) (before written : List ℕ) : Type 0 where
   pub asked : List (List ℕ)
   pub in_order : lines input ≡ asked ++ left ls
   pub counted : ls.taken ≡ length asked

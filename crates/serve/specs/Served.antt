@@ -9,8 +9,8 @@
 --   Dialogue               lines, their replies, and the session that they are
 --   session_text           the text of the replies, a line each, lines counted from 1
 --   SessionText            a whole input, answered
---   BrokenOff              a front part of its lines, answered
---   Served                 all of it, for an input of any length
+--   BrokenOff              a front part of its lines, answered, and of their text, written
+--   Served, Broken         what comes of an input of any length, with all of the text and without memory for it
 use Rattle.std.specs.Prelude.{◌≡◌, ℕ, suc, ◌*◌, List, [], ◌∷◌, ◌++◌, length, Ok, Err, MatchBool, Result, nat_lt}
 use Rattle.std.specs.List.{AllZip}
 use Rattle.model.specs.declared.call.Call.{Call}
@@ -24,7 +24,7 @@ use Rattle.frames.specs.declared.fault.FrameFault.{FrameFault}
 use Rattle.frames.specs.declared.fault.SessionFault.{SessionFault}
 use Rattle.frames.specs.declared.fault.SessionFault.TheVariants as fault
 use Rattle.frames.specs.Frames.{request}
-use Rattle.frames.specs.Text.{Reported, reply_text}
+use Rattle.frames.specs.Text.{Reported, reply_text, FrontPut}
 use Rattle.serve.specs.Lines.{lines}
 
 -- The most bytes of input that are read as lines.
@@ -79,7 +79,8 @@ left_after (e ∷ es) b = left_after es (left_by e.said b)
 
 -- Lines and their replies: the calls that the lines ask for are a session that has come to this state, the
 -- memory under its store holds what `holds` says of them, and what they told is what is left in the buffers.
-pub record Dialogue (lent : Lent) (asked : List (List ℕ)) (replies : List Reply) (holds : List Event → Type 0) (state : State) (old new : Buffers) : Type 0 where
+pub record Dialogue (lent : Lent) (asked : List (List ℕ)) (replies : List Reply) (holds : List Event → Type 0)
+    (state : State) (old new : Buffers) : Type 0 where
   pub replied : Replied asked replies
   pub sound : Sound (events_of lent asked replies) state
   pub held : holds (events_of lent asked replies)
@@ -90,18 +91,23 @@ session_text line [] = []
 session_text line (r ∷ rs) = reply_text line (reported r) ++ session_text (suc line) rs
 
 -- A whole input is answered: there is a reply to each line, and their text is put behind what was written.
-pub record SessionText (lent : Lent) (input : List ℕ) (holds : List Event → Type 0) (state : State) (old new : Buffers) (before written : List ℕ) : Type 0 where
+pub record SessionText (lent : Lent) (input : List ℕ) (holds : List Event → Type 0) (state : State)
+    (old new : Buffers) (before written : List ℕ) : Type 0 where
   pub replies : List Reply
   pub answered : Dialogue lent (lines input) replies holds state old new
   pub text : written ≡ before ++ session_text 1 replies
 
--- A front part of the lines is answered: what stands when the text finds no memory.
-pub record BrokenOff (lent : Lent) (input : List ℕ) (holds : List Event → Type 0) (state : State) (old new : Buffers) : Type 0 where
+-- A front part of the lines is answered, the last of them with a reply whose text finds no memory: the replies
+-- before it are written whole, and a front part of its own text behind them.
+pub record BrokenOff (lent : Lent) (input : List ℕ) (holds : List Event → Type 0) (state : State)
+    (old new : Buffers) (before written : List ℕ) : Type 0 where
   pub asked : List (List ℕ)
   pub unasked : List (List ℕ)
   pub in_order : lines input ≡ asked ++ unasked
-  pub replies : List Reply
-  pub answered : Dialogue lent asked replies holds state old new
+  pub whole : List Reply
+  pub last : Reply
+  pub answered : Dialogue lent asked (whole ++ (last ∷ [])) holds state old new
+  pub text : FrontPut (before ++ session_text 1 whole) (reply_text (suc (length whole)) (reported last)) written
 
 -- Input that is too long gets one refusal of the call layer, of no line.
 abbrev pub too_long : List ℕ
@@ -115,6 +121,13 @@ Served lent input holds state old new before written =
     MatchBool (nat_lt input_limit (length input))
     ((written ≡ before ++ too_long) × (state ≡ unmade) × (new ≡ old))
     (SessionText lent input holds state old new before written)
+
+-- The same where the text finds no memory. Of input that is too long, no line is asked.
+abbrev pub Broken : Lent → List ℕ → (List Event → Type 0) → State → Buffers → Buffers → List ℕ → List ℕ → Type 0
+Broken lent input holds state old new before written =
+    MatchBool (nat_lt input_limit (length input))
+    (FrontPut before too_long written × (state ≡ unmade) × (new ≡ old))
+    (BrokenOff lent input holds state old new before written)
 
 -- The text of a reply takes no more bytes.
 abbrev pub reply_limit : ℕ

@@ -4,7 +4,7 @@ ghost use Rattle.workspace.specs.Parts.{buffers, sizes_of, SameMemory, Untouched
 ghost use Rattle.session.specs.Kept.{state_reached};
 ghost use Rattle.session.specs.Held.{HoldsAfter};
 ghost use Rattle.session.specs.Calls.{lent_at};
-ghost use Rattle.serve.specs.Served.{input_limit, SessionText, BrokenOff, Served, text_limit};
+ghost use Rattle.serve.specs.Served.{input_limit, SessionText, BrokenOff, Served, Broken, text_limit};
 
 use crate::line::answer;
 use crate::lines::Lines;
@@ -30,7 +30,7 @@ fn answer_all<S: Editable>(
         (state_reached S.graph S.most result.0) (buffers workspace.old) (buffers workspace.new) out.old.items out.new.items) }
     ensures broken { IfErr result.1 (λ _. BrokenOff (lent_at (S.room_in memory) workspace.old) input.now
         (HoldsAfter S.held (S.fresh memory) S.with_edge_in S.without_edge_in result.0)
-        (state_reached S.graph S.most result.0) (buffers workspace.old) (buffers workspace.new)) }
+        (state_reached S.graph S.most result.0) (buffers workspace.old) (buffers workspace.new) out.old.items out.new.items) }
     ensures back { IfErr result.0 (λ m. m ≡ memory) }
     ensures untouched { Untouched workspace.old workspace.new }
     ensures memory { SameMemory workspace.old workspace.new }
@@ -51,7 +51,6 @@ fn answer_all<S: Editable>(
 // Serves a whole input over memory for a store: writes the text of the replies behind what `out` holds,
 // and gives the session that the calls have come to, the planner or the memory as it was lent. An error is
 // want of memory for the text.
-#[tactic(auto, using(crate::proofs::Turns::broken_failed))]
 pub fn serve<S: Editable>(
     memory: S::Memory,
     workspace: &mut Workspace<'_>,
@@ -61,10 +60,11 @@ pub fn serve<S: Editable>(
     ensures served { IfOk result.1 (λ _. Served (lent_at (S.room_in memory) workspace.old) input.now
         (HoldsAfter S.held (S.fresh memory) S.with_edge_in S.without_edge_in result.0)
         (state_reached S.graph S.most result.0) (buffers workspace.old) (buffers workspace.new) out.old.items out.new.items) }
-    // Without memory for all of the text, the session is that of the lines up to there.
-    ensures broken { IfErr result.1 (λ _. BrokenOff (lent_at (S.room_in memory) workspace.old) input.now
+    // Without memory for all of the text, the session is that of the lines up to there, and a front part of the
+    // text stands behind what was written.
+    ensures broken { IfErr result.1 (λ _. Broken (lent_at (S.room_in memory) workspace.old) input.now
         (HoldsAfter S.held (S.fresh memory) S.with_edge_in S.without_edge_in result.0)
-        (state_reached S.graph S.most result.0) (buffers workspace.old) (buffers workspace.new)) }
+        (state_reached S.graph S.most result.0) (buffers workspace.old) (buffers workspace.new) out.old.items out.new.items) }
     ensures long { input_limit < length input.now → result.0 ≡ Err memory }
     ensures back { IfErr result.0 (λ m. m ≡ memory) }
     // No call of today is a question, so nothing at all is written into the workspace.

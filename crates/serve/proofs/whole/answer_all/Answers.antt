@@ -3,7 +3,7 @@ use Rattle.std.proofs.lemmas.Result.{IfErr-weaker}
 use Rattle.model.specs.declared.sizes.Sizes.{Sizes}
 use Rattle.model.specs.Model.{lent_of}
 use Rattle.workspace.specs.Parts.{buffers}
-use Rattle.frames.specs.Text.{Reported, reply_text}
+use Rattle.frames.specs.Text.{Reported, reply_text, FrontPut}
 use Rattle.session.specs.Kept.{state_reached}
 use Rattle.session.specs.Held.{HoldsAfter}
 use Rattle.session.specs.Calls.{lent_at}
@@ -75,8 +75,10 @@ returns-in-Err-clause-broken g c =
     let room = g.S.Editable.room_in c.args.memory in
     let inv = c.loop-line.invariant in
     let l = c.in-Some.line in
+    let w = vec_items c.loop-line.out in
     let now = buffers c.answer-next.new.workspace in
-    let r = reply_in c.answer-next.result.1 now in
+    let reply = c.answer-next.result.1 in
+    let r = reply_in reply now in
     let next = state_reached g.S.Map.graph g.S.Editable.most c.answer-next.result.0 in
     let was = state_reached g.S.Map.graph g.S.Editable.most c.loop-line.session in
     let waits = IfErr-weaker c.loop-line.session _ _ (λ m e. ap g.S.Editable.room_in e) inv.back in
@@ -89,8 +91,9 @@ returns-in-Err-clause-broken g c =
     broken_next (lent_at room c.args.workspace.now) c.args.input.now
     was next
     c.loop-line.line-iterator l c.next.new.self (buffers c.args.workspace.now) (buffers c.loop-line.workspace) now
-    (vec_items c.args.out.now) (vec_items c.loop-line.out) r c.in-Some.ensures.steps inv.so_far
+    (vec_items c.args.out.now) w (vec_items c.write_reply.new.out) r c.in-Some.ensures.steps inv.so_far
     (subst (λ (z : Sizes). Goes (lent_of room z) was l.text.now r next) inv.sizes (λ events. c.answer-next.ensures.law room events waits))
     (subst (λ (z : Sizes). Leaves (lent_of room z) was l.text.now r holds holds') inv.sizes
     (λ events. c.answer-next.ensures.held room fresh events waits_fresh))
     c.answer-next.ensures.reply c.answer-next.ensures.exact (c.answer-next.ensures.left (lent_at room c.args.workspace.now))
+    (subst (λ (x : Reported). FrontPut w (reply_text l.number x) (vec_items c.write_reply.new.out)) (sym (written_as reply now)) c.in-Err.ensures.failed)
