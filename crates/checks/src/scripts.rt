@@ -1,5 +1,5 @@
-// Scripts of calls over each store, written out where they are played: an array of them by value is a form
-// that the borrow checker does not cover. And memory that comes back.
+// Scripts of calls over each store, and memory that comes back. A script is written out and read where it is
+// played: to pass an array of its calls by value or by `&` is a form that the borrow checker does not cover.
 use claims::check;
 use delivery::{over_grid, play_on_grid, play_on_list};
 use model::{Answer, Call, Refusal};
@@ -16,13 +16,12 @@ fn asked(call: Call) -> Asked<'static> {
     }
 }
 
-// A join before the make, the make, a join and the same join again were answered as they should be.
-fn answered(script: &[Asked<'_>]) -> Result<(), Fail> {
-    check(script.len() == 4)?;
-    check(script[0].reply == Err(Refusal::OutOfTurn))?;
-    check(script[1].reply == Ok(Answer::Made))?;
-    check(script[2].reply == Ok(Answer::Joined))?;
-    check(script[3].reply == Err(Refusal::IsJoined))
+// What a join before the make, the make, a join and the same join again are answered.
+fn answered(replies: [Result<Answer, Refusal>; 4]) -> Result<(), Fail> {
+    check(replies[0] == Err(Refusal::OutOfTurn))?;
+    check(replies[1] == Ok(Answer::Made))?;
+    check(replies[2] == Ok(Answer::Joined))?;
+    check(replies[3] == Err(Refusal::IsJoined))
 }
 
 #[test]
@@ -35,7 +34,12 @@ fn a_script_over_a_grid() -> Result<(), Fail> {
     ];
     let mut words = [7u64; 12];
     check(play_on_grid(&mut words, &mut script).is_ok())?;
-    answered(&script)
+    answered([
+        script[0].reply,
+        script[1].reply,
+        script[2].reply,
+        script[3].reply,
+    ])
 }
 
 #[test]
@@ -48,7 +52,12 @@ fn a_script_over_a_list() -> Result<(), Fail> {
     ];
     let mut cells = [7u16; 3];
     check(play_on_list(&mut cells, &mut script).is_ok())?;
-    answered(&script)
+    answered([
+        script[0].reply,
+        script[1].reply,
+        script[2].reply,
+        script[3].reply,
+    ])
 }
 
 #[test]
