@@ -67,6 +67,7 @@ events_at lent (Ok c) (Err (fault.Call r)) = event lent c (Err r) ∷ []
 events_at lent (Ok c) (Err (fault.Frame f)) = []
 events_at lent (Err f) r = []
 
+-- Those of some lines, in order.
 unfoldable pub events_of : Lent → List (List ℕ) → List Reply → List Event
 events_of lent [] rs = []
 events_of lent (l ∷ ls) [] = []
@@ -86,6 +87,7 @@ pub record Dialogue (lent : Lent) (asked : List (List ℕ)) (replies : List Repl
   pub held : holds (events_of lent asked replies)
   pub left : new ≡ left_after (events_of lent asked replies) old
 
+-- The text of replies, one after another, the first to the line of this number.
 unfoldable pub session_text : ℕ → List Reply → List ℕ
 session_text line [] = []
 session_text line (r ∷ rs) = reply_text line (reported r) ++ session_text (suc line) rs
