@@ -20,8 +20,8 @@ const READ_LIMIT: u64 = 1048576;
 // Words for 200 vertices, four each.
 const GRID_WORDS: usize = 800;
 
-// As many items as a cut of 200 vertices can have, and one more.
-const CUT_ITEMS: usize = 200;
+// Room for a cut of 200 vertices. A power of two keeps the arrays behind it aligned, as runs are fastest.
+const CUT_ITEMS: usize = 256;
 
 // How many vertices are asked for against each later one.
 const FIRSTS: u16 = 8;
