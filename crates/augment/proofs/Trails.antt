@@ -1,24 +1,25 @@
--- A trail is read back from what it noted.
-use Rattle.std.proofs.Common.{◌≡◌, ℕ, zero, suc, ◌-◌, ◌<◌, ◌≤◌, Bool, false, eqb, List, [], ◌∷◌, ◌++◌, reverse, length, get_or, All, sym, refl, ap, ◌∙◌, arith}
+-- A trail is read back from what it noted: the way back from its end, node by node.
+--
+--   all_reverse, apart_short   of lists: what holds of each item, and how many numbers there are
+--   read_reversed   the nodes of a trail, turned round, are what is read
+--   way_turned      so the way back from its end leads back
+--   headed          a list that leads back from x begins with x
+--   way_last        where x is s, the way back from x is x alone
+--   way_next        elsewhere the node noted at x comes next, and the way back from it leads back
+use Rattle.std.proofs.Common.{◌≡◌, ℕ, zero, suc, ◌-◌, ◌<◌, ◌≤◌, Bool, true, false, cond, eqb, List, [], ◌∷◌, ◌++◌, reverse, length, get_or, All, sym, refl, ap, ◌∙◌, subst, arith}
 use mathlib.Core.List.{reverse-cons}
 use Rattle.std.proofs.lemmas.List.{length-reverse, get_or-reverse}
 use Rattle.std.proofs.lemmas.List.Elements.{All-nil, All-cons, All-head, All-tail}
 use Rattle.std.proofs.lemmas.Bool.{ne_eqb}
-use Rattle.graph.specs.Graph.{count}
+use Rattle.graph.specs.Graph.{count, node_limit}
 use Rattle.graph.proofs.Counts.{count_most, count_one}
 use Rattle.flows.specs.Lists.{among}
 use Rattle.flows.specs.Routes.{Walk, Apart}
 use Rattle.flows.proofs.Lists.{any_cons, among_head, among_off}
-use Rattle.augment.specs.Trails.{Noted, Trail, walk_back}
+use Rattle.augment.specs.Trails.{Noted, Trail, walk_back, way, LeadsBack}
 use Rattle.augment.proofs.Backs.{back_last, back_next}
 
--- A list that leads by the notes from t back to s, which is met only at its end.
-abbrev LeadsBack : List ℕ → ℕ → ℕ → List ℕ → Type 0
-LeadsBack before s t [] = ⊥
-LeadsBack before s t (x ∷ []) = (x ≡ t) × (x ≡ s)
-LeadsBack before s t (x ∷ (y ∷ xs)) = (x ≡ t) × (x ≡ s → ⊥) × LeadsBack before s (get_or before x 0) (y ∷ xs)
-
--- Such a list is what is read.
+-- A list that leads back is what is read.
 read : (before : List ℕ) (s t n : ℕ) (xs : List ℕ) → LeadsBack before s t xs → length xs ≤ n → xs ≡ walk_back before s t n
 read before s t n [] w h = absurd w
 read before s t zero (x ∷ []) w h = absurd (omega arith)
@@ -80,3 +81,48 @@ read_reversed r s t before n trail h =
     let short = apart_short n xs trail.route.apart h in
     let back = turned r before s t xs trail.route.walk trail.route.apart trail.noted in
     read before s t n (reverse xs) back (rw (length-reverse xs) short)
+
+-- The way back from the end of a trail leads back.
+pub way_turned : (r : ℕ → ℕ → Bool) (s t : ℕ) (before : List ℕ) (trail : Trail r s t before) → All (λ x. x < node_limit) trail.nodes
+    → LeadsBack before s t (way before s t)
+way_turned r s t before trail h =
+    subst (LeadsBack before s t) (read_reversed r s t before node_limit trail h) (turned r before s t trail.nodes trail.route.walk trail.route.apart trail.noted)
+
+-- A list that leads back from x begins with x.
+pub headed : (before : List ℕ) (s x : ℕ) (xs : List ℕ) → LeadsBack before s x xs → (ys : List ℕ) × (xs ≡ x ∷ ys)
+headed before s x [] l = absurd l
+headed before s x (y ∷ ys) l = (ys, ap (λ (k : ℕ). k ∷ ys) (first ys l))
+  where
+    first : (ys : List ℕ) → LeadsBack before s x (y ∷ ys) → y ≡ x
+    first [] l = l.0
+    first (z ∷ zs) l = l.0
+
+-- At s the way ends.
+pub way_last : (before : List ℕ) (s x : ℕ) → x ≡ s → way before s x ≡ x ∷ []
+way_last before s x e = back_last before s x 401 e
+
+-- A list that leads back from x, which is not s, has x, and leads on from the node noted at x.
+next : (before : List ℕ) (s x : ℕ) (xs : List ℕ) → LeadsBack before s x xs → (x ≡ s → ⊥)
+    → (ys : List ℕ) × (xs ≡ x ∷ ys) × LeadsBack before s (get_or before x 0) ys
+next before s x [] l d = absurd l
+next before s x (y ∷ []) l d = absurd (d (sym l.0 ∙ l.1))
+next before s x (y ∷ (z ∷ zs)) l d = (z ∷ zs, ap (λ (k : ℕ). k ∷ (z ∷ zs)) l.0, rw (sym l.0) l.2)
+
+-- No more than n nodes are read.
+walk_long : (before : List ℕ) (s x n : ℕ) → length (walk_back before s x n) ≤ n
+unfolding walk_back
+walk_long before s x zero = omega arith
+walk_long before s x (suc n) = omega (arith, cut (eqb x s) (walk_back before s (get_or before x 0) n) (walk_long before s (get_or before x 0) n))
+  where
+    cut : (b : Bool) (xs : List ℕ) → length xs ≤ n → length (cond b [] xs) ≤ n
+    cut true xs h = omega arith
+    cut false xs h = h
+
+-- Elsewhere the node noted at x comes next, and the way back from it leads back.
+pub way_next : (before : List ℕ) (s x : ℕ) → LeadsBack before s x (way before s x) → (x ≡ s → ⊥)
+    → (way before s x ≡ x ∷ way before s (get_or before x 0)) × LeadsBack before s (get_or before x 0) (way before s (get_or before x 0))
+way_next before s x l d =
+    let k = next before s x (way before s x) l d in
+    let m : length (way before s x) ≡ suc (length k.0) = ap length k.1 in
+    let e = read before s (get_or before x 0) node_limit k.0 k.2 (omega (arith, m, walk_long before s x node_limit)) in
+    (k.1 ∙ ap (λ (ys : List ℕ). x ∷ ys) e, subst (LeadsBack before s (get_or before x 0)) e k.2)

@@ -3,9 +3,12 @@
 --   Noted        each node of a list but the first has the one before it noted
 --   Trail        a route whose nodes are noted
 --   walk_back    the nodes from t back to s, read from the notes
+--   way          all of them
+--   LeadsBack    a list that goes from t back to s by the notes
 --   pushed_back  a flow pushed along nodes from the last one back
 --   PushedBack   it is the flow pushed along the trail
-use Rattle.std.specs.Prelude.{◌≡◌, ℕ, zero, suc, ◌<◌, Bool, cond, List, [], ◌∷◌, All, ◌==◌, slice_index}
+use Rattle.std.specs.Prelude.{◌≡◌, ℕ, zero, suc, ◌<◌, Bool, cond, List, [], ◌∷◌, All, ◌==◌, ◌≢◌, slice_index}
+use Rattle.graph.specs.Graph.{node_limit}
 use Rattle.flows.specs.Routes.{Route}
 use Rattle.flows.specs.Flow.{stepped, pushed}
 
@@ -25,6 +28,16 @@ pub record Trail (r : ℕ → ℕ → Bool) (s t : ℕ) (before : List ℕ) : Ty
 unfoldable pub walk_back : List ℕ → ℕ → ℕ → ℕ → List ℕ
 walk_back before s t zero = []
 walk_back before s t (suc n) = t ∷ cond (t == s) [] (walk_back before s (slice_index before t) n)
+
+-- No route has more nodes than there can be.
+abbrev pub way : List ℕ → ℕ → ℕ → List ℕ
+way before s t = walk_back before s t node_limit
+
+-- A list that leads by the notes from t back to s, which is met only at its end.
+abbrev pub LeadsBack : List ℕ → ℕ → ℕ → List ℕ → Type 0
+LeadsBack before s t [] = ⊥
+LeadsBack before s t (x ∷ []) = (x ≡ t) × (x ≡ s)
+LeadsBack before s t (x ∷ (y ∷ xs)) = (x ≡ t) × (x ≢ s) × LeadsBack before s (slice_index before x) (y ∷ xs)
 
 -- The flow pushed along the nodes back from an end, the last step first.
 unfoldable pub pushed_back : (ℕ → ℕ → Bool) → List ℕ → (ℕ → ℕ → Bool)

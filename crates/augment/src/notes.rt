@@ -34,7 +34,7 @@ impl<'a> Notes<'a> {
     }
 
     // The node noted at x, 0 past the notes.
-    pub(crate) fn noted(&self, x: u16) -> u16
+    pub fn noted(&self, x: u16) -> u16
         ensures { result ≡ slice_index self.now.before.now x }
     {
         self.before.get(x as usize).copied().unwrap_or(0)

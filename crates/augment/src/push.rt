@@ -1,9 +1,9 @@
 // One unit more of a flow, pushed along a noted route.
 ghost use Rattle.std.specs.Prelude.{◌≡◌, ◌<◌, All};
 ghost use Rattle.graph.specs.Graph.{node_limit};
-ghost use Rattle.flows.specs.Flow.{stepped};
+ghost use Rattle.flows.specs.Flow.{stepped, pushed};
 ghost use Rattle.rows.specs.Flow.{carried};
-ghost use Rattle.augment.specs.Trails.{walk_back, pushed_back, PushedBack};
+ghost use Rattle.augment.specs.Trails.{way, pushed_back, PushedBack};
 
 use crate::notes::{MOST_NODES, Notes};
 use rows::flow::Arcs;
@@ -25,8 +25,8 @@ fn step(flow: &mut Arcs<'_>, p: u16, q: u16)
 // Pushes one unit along the route that is noted from `from` to `to`, read back from its end: the last
 // step first.
 pub fn augment(flow: &mut Arcs<'_>, notes: &Notes<'_>, from: u16, to: u16)
-    requires { All (λ x. x < flow.old.heads) (walk_back notes.now.before.now from to node_limit) }
-    ensures arcs { carried flow.new ≡ pushed_back (carried flow.old) (walk_back notes.now.before.now from to node_limit) }
+    requires { All (λ x. x < flow.old.heads) (way notes.now.before.now from to) }
+    ensures arcs { carried flow.new ≡ pushed_back (carried flow.old) (way notes.now.before.now from to) }
     ensures heads { flow.new.heads ≡ flow.old.heads }
     ensures same_reference { flow.new.words.ghost_name ≡ flow.old.words.ghost_name }
 {
