@@ -1,0 +1,12 @@
+-- Between two routes: what was taken and written so far obeys the rules, and the rest of the flow goes on.
+use Rattle.std.proofs.Common.{◌-◌}
+use Rattle.rows.specs.Flow.{carried}
+use Rattle.routes.proofs.Draws.{Sofar}
+use Rattle.routes.proofs.route.write_routes.Given as goal
+
+abbrev pub invariant-loop-second : goal.invariant-loop-second
+invariant-loop-second l =
+    Sofar l.net.nodes l.net.order (carried l.initial.flow) (carried l.flow) l.net.from l.net.to l.w l.at l.initial.bytes l.bytes
+
+abbrev pub decreases-loop-second : goal.decreases-loop-second
+decreases-loop-second l = l.net.nodes - l.w

@@ -1,0 +1,2 @@
+pub mod Bare
+pub mod Routes

@@ -1,0 +1,43 @@
+// The way of one unit of a flow, sought from its end back.
+ghost use Rattle.std.specs.Prelude.{◌≡◌, true};
+ghost use Rattle.rows.specs.Flow.{carried};
+ghost use Rattle.routes.specs.Routes.{Sends, Led};
+
+use crate::bare::Bare;
+use crate::network::Network;
+use augment::Notes;
+use rows::flow::Arcs;
+use rows::marks::Marks;
+use search::{Slots, far_from, search};
+
+// Notes a way along the flow from its second node on to its end: there is one, since what the flow brings
+// to a node goes on. Where the second node is the end, nothing has to be noted. Without arcs every node
+// is far from the goal of the search.
+pub(crate) fn seek_way(
+    net: Network,
+    flow: &Arcs<'_>,
+    notes: &mut Notes<'_>,
+    slots: &mut Slots<'_, u16>,
+    second: u16,
+)
+    requires flow { Sends net.nodes (carried flow.now) net.from net.to }
+    requires arc { carried flow.now net.from second ≡ true }
+    ensures way { Led (carried flow.now) net.from net.to second notes.new.before.now }
+    ensures same_reference { notes.new.before.ghost_name ≡ notes.old.before.ghost_name }
+{
+    if second != net.to {
+        let mut plan = Bare::of(net.nodes);
+        let far = far_from(&mut plan, second);
+        let mut marks = Marks::none();
+        search(
+            &mut plan,
+            flow,
+            &mut marks,
+            notes,
+            slots,
+            net.to,
+            Some(second),
+            &far,
+        );
+    }
+}
