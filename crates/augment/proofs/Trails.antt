@@ -6,9 +6,10 @@
 --   headed          a list that leads back from x begins with x
 --   way_last        where x is s, the way back from x is x alone
 --   way_next        elsewhere the node noted at x comes next, and the way back from it leads back
-use Rattle.std.proofs.Common.{◌≡◌, ℕ, zero, suc, ◌-◌, ◌<◌, ◌≤◌, Bool, true, false, cond, eqb, List, [], ◌∷◌, ◌++◌, reverse, length, get_or, All, sym, refl, ap, ◌∙◌, subst, arith}
+--   way_noted       once v is noted at x, the way back from x is x and what led back from v
+use Rattle.std.proofs.Common.{◌≡◌, ℕ, zero, suc, ◌-◌, ◌<◌, ◌≤◌, Bool, true, false, cond, eqb, List, [], ◌∷◌, ◌++◌, reverse, length, get_or, set, All, sym, refl, ap, ◌∙◌, subst, arith}
 use mathlib.Core.List.{reverse-cons}
-use Rattle.std.proofs.lemmas.List.{length-reverse, get_or-reverse}
+use Rattle.std.proofs.lemmas.List.{length-reverse, get_or-reverse, get_or-set_same, get_or-set_other}
 use Rattle.std.proofs.lemmas.List.Elements.{All-nil, All-cons, All-head, All-tail}
 use Rattle.std.proofs.lemmas.Bool.{ne_eqb}
 use Rattle.graph.specs.Graph.{count, node_limit}
@@ -126,3 +127,21 @@ way_next before s x l d =
     let m : length (way before s x) ≡ suc (length k.0) = ap length k.1 in
     let e = read before s (get_or before x 0) node_limit k.0 k.2 (omega (arith, m, walk_long before s x node_limit)) in
     (k.1 ∙ ap (λ (ys : List ℕ). x ∷ ys) e, subst (LeadsBack before s (get_or before x 0)) e k.2)
+
+-- A note at a node off a list changes nothing along the list.
+leads_off : (before : List ℕ) (s x v t : ℕ) (xs : List ℕ) → among xs x ≡ false → LeadsBack before s t xs → LeadsBack (set before x v) s t xs
+leads_off before s x v t [] o l = l
+leads_off before s x v t (y ∷ []) o l = l
+leads_off before s x v t (y ∷ (z ∷ zs)) o l =
+    let k = among_off y (z ∷ zs) x o in
+    let same = get_or-set_other before x y v 0 (λ e. k.0 (sym e)) in
+    (l.0, l.1, rw same (leads_off before s x v (get_or before y 0) (z ∷ zs) k.1 l.2))
+
+-- Once v is noted at x, the way back from x is x and what led back from v.
+pub way_noted : (before : List ℕ) (s x v : ℕ) (xs : List ℕ) → x < length before → (x ≡ s → ⊥) → among xs x ≡ false → LeadsBack before s v xs
+    → suc (length xs) ≤ node_limit → LeadsBack (set before x v) s x (x ∷ xs) × (x ∷ xs ≡ way (set before x v) s x)
+way_noted before s x v [] h d o l n = absurd l
+way_noted before s x v (y ∷ ys) h d o l n =
+    let here = get_or-set_same before x v 0 h in
+    let leads : LeadsBack (set before x v) s x (x ∷ (y ∷ ys)) = (refl, d, rw here (leads_off before s x v v (y ∷ ys) o l)) in
+    (leads, read (set before x v) s x node_limit (x ∷ (y ∷ ys)) leads n)

@@ -1,21 +1,15 @@
 -- The bytes of a route in a buffer: its vertices behind the place of their number, and then the number.
 --
---   parts_long     how many vertices there are: of the first node, and of the rest
 --   block_placed   the number set in front of the vertices
 --   bytes_push     the bytes of one route more
-use Rattle.std.proofs.Common.{◌≡◌, ℕ, suc, ◌+◌, ◌-◌, ◌<◌, ◌≤◌, List, [], ◌∷◌, ◌++◌, length, take, drop, set, sym, ap, ap₂, ◌∙◌, arith, length-append}
+use Rattle.std.proofs.Common.{◌≡◌, ℕ, suc, ◌+◌, ◌<◌, ◌≤◌, List, [], ◌∷◌, ◌++◌, length, take, drop, set, sym, ap, ap₂, ◌∙◌, arith}
 use Rattle.std.proofs.Math.Seq.{take-set-lt}
 use Rattle.std.proofs.lemmas.List.{set-append_left, drop-set-lt, length-take-le, append-nil}
 use Rattle.std.proofs.lemmas.Grind.{flat_map-append}
 use Rattle.cuts.specs.RouteBytes.{bytes_of}
 use Rattle.plan.specs.Writing.{placed}
-use Rattle.plan.proofs.Placing.{placed_one, placed_more}
-use Rattle.routes.specs.Routes.{vertices, route_block}
-use Rattle.routes.proofs.Vertices.{vertices_more}
-
--- How many vertices there are: of the first node, and of the rest.
-pub parts_long : (order a : ℕ) (ws : List ℕ) → length (vertices order (a ∷ ws)) ≡ length (vertices order (a ∷ [])) + length (vertices order ws)
-parts_long order a ws = ap length (vertices_more order a ws) ∙ length-append (vertices order (a ∷ [])) (vertices order ws)
+use Rattle.plan.proofs.Placing.{placed_long, placed_one, placed_more}
+use Rattle.routes.specs.Routes.{route_block}
 
 -- An item set at its place, and a list behind it.
 placed_step : {X : Type 0} (k : ℕ) (x : X) (xs buffer : List X) → k < length buffer → placed (k + 1) xs (set buffer k x) ≡ placed k (x ∷ xs) buffer
@@ -34,11 +28,15 @@ placed_before {X} k x xs buffer h =
     ∙ placed_step k x xs buffer (omega (arith, h))
 
 -- The vertices of a route behind the place of their number, and then the number.
-pub block_placed : (at end : ℕ) (ws start bytes : List ℕ) → at + suc (length ws) ≤ length start → bytes ≡ placed (at + 1) ws start
-    → end ≡ at + 1 + length ws → set bytes at (end - at - 1) ≡ placed at (route_block ws) start
-block_placed at end ws start bytes room e k =
-    let l : end - at - 1 ≡ length ws = omega (arith, k) in
-    ap₂ (λ (b : List ℕ) (x : ℕ). set b at x) e l ∙ placed_before at (length ws) ws start room
+pub block_placed : (at next count : ℕ) (ws start bytes after : List ℕ) → at + suc (length ws) ≤ length start → bytes ≡ placed (at + 1) ws start
+    → next ≡ at + 1 + length ws → at + 1 + count ≡ next → after ≡ placed at (count ∷ []) bytes → after ≡ placed at (route_block ws) start
+block_placed at next count ws start bytes after room e k m a =
+    let many : count ≡ length ws = omega arith in
+    let long = ap length e ∙ placed_long (at + 1) ws start (omega (arith, room)) in
+    a
+    ∙ sym (placed_one at count bytes (omega (arith, long, room)))
+    ∙ ap₂ (λ (b : List ℕ) (x : ℕ). set b at x) e many
+    ∙ placed_before at (length ws) ws start room
 
 -- The bytes of one route more.
 pub bytes_push : (rs : List (List ℕ)) (xs : List ℕ) → bytes_of (rs ++ (xs ∷ [])) ≡ bytes_of rs ++ route_block xs

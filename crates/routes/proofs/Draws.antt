@@ -191,19 +191,21 @@ module _ (n order : ℕ) (f h : ℕ → ℕ → Bool) (a b w at : ℕ) (start no
   -- The next head is c.
   module _ (c : ℕ) (here : w ≤ c) (room : RoutesRoom order f a b (length start)) where
     -- A route over c takes the arc from a to c.
-    takes : (xs : List ℕ) → goes (a ∷ (c ∷ xs)) a c ≡ true
+    takes : (xs : List ℕ) → Route h a b xs → second xs ≡ c → goes xs a c ≡ true
     unfolding goes
-    takes xs = or_left _ _ (and_from _ _ (eq-eqb a a refl) (eq-eqb c c refl))
+    takes [] route over = absurd route.walk
+    takes (x ∷ []) route over = absurd (so.sends.apart (sym route.walk.0 ∙ route.walk.1))
+    takes (x ∷ (y ∷ ys)) route over = or_left _ _ (and_from _ _ (eq-eqb x a route.walk.0) (eq-eqb y c over))
 
     -- There is room for any.
     pub sofar_room : RouteRoom order h a b c at (length now)
-    sofar_room xs route = room_more c here (a ∷ (c ∷ xs)) route refl (takes xs) room
+    sofar_room xs route over = room_more c here xs route over (takes xs route over) room
 
     -- One is taken and written.
     pub sofar_more : ((q : ℕ) → w ≤ q → q < c → h a q ≡ false) → (left : ℕ → ℕ → Bool) (next : ℕ) (after : List ℕ)
         → Taken order h left a b c at now next after → Sofar n order f left a b (c + 1) next start after
     sofar_more none left next after t =
-        let xs = a ∷ (c ∷ t.rest) in
-        let written = written_more c here xs t.route refl (takes t.rest) room next after t.behind t.bytes in
+        let uses = takes t.route t.along t.over in
+        let written = written_more c here t.route t.along t.over uses room next after t.behind t.bytes in
         subst (λ (g : ℕ → ℕ → Bool). Sofar n order f g a b (c + 1) next start after) (sym t.arcs)
-        (next_sofar c here xs t.route refl (takes t.rest) none next after written)
+        (next_sofar c here t.route t.along t.over uses none next after written)

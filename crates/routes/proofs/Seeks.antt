@@ -5,7 +5,8 @@
 --   led_end      where c is b, the way is b alone
 --   led_found    else the way is what a search noted from b back to c
 --   found        such a search finds c
-use Rattle.std.proofs.Common.{◌≡◌, ℕ, ◌<◌, ◌≤◌, Bool, true, false, not, ◌&&◌, ◌||◌, eqb, List, [], ◌∷◌, sym, refl, ap, ◌∙◌, subst, arith}
+--   noted_led    with c noted at a, a route from a over c is noted
+use Rattle.std.proofs.Common.{◌≡◌, ℕ, ◌<◌, ◌≤◌, Bool, true, false, not, ◌&&◌, ◌||◌, eqb, List, [], ◌∷◌, length, set, sym, refl, ap, ◌∙◌, subst, arith}
 use mathlib.Core.Path.{fun_ext}
 use Rattle.std.proofs.lemmas.Bool.{both_ways}
 use Rattle.std.proofs.lemmas.List.Elements.{All-weaker}
@@ -16,12 +17,13 @@ use Rattle.flows.specs.Flow.{residual, residual_side, back}
 use Rattle.flows.proofs.Lists.{any_nil, off_among}
 use Rattle.flows.proofs.Routes.{walk_inside}
 use Rattle.flows.proofs.Outward.{goes_on, turned_route}
-use Rattle.augment.specs.Trails.{Trail}
-use Rattle.augment.proofs.Trails.{read_reversed, way_last, way_turned}
+use Rattle.augment.specs.Trails.{Trail, way, LeadsBack}
+use Rattle.augment.proofs.Trails.{apart_short, read_reversed, headed, way_last, way_turned, way_noted}
 use Rattle.search.specs.Goals.{Far, Closed}
 use Rattle.search.specs.Steps.{along}
+use Rattle.cuts.specs.RouteRules.{second}
 use Rattle.routes.specs.Bare.{bare}
-use Rattle.routes.specs.Routes.{web, Sends, Led}
+use Rattle.routes.specs.Routes.{web, Sends, Led, RouteNoted}
 
 -- No arc leads to a goal, so none with room does.
 pub all_closed : (n t : ℕ) (f : ℕ → ℕ → Bool) (set : ℕ → Bool) → Far (bare n) t set → Closed (bare n) f t set
@@ -64,3 +66,17 @@ module _ (n : ℕ) (f : ℕ → ℕ → Bool) (a b c : ℕ) (few : n ≤ node_li
       let inside = (sends.sound.bounded a c arc).1 in
       let reached = goes_on (web n f) a b f sends.value sends.from sends.flow sends.starts sends.sound sends.to sends.apart c arc inside in
       both_ways (reaches n (back f) b c) (sym (ap (λ (r : ℕ → ℕ → Bool). reaches n r b c) (bare_back n f)) ∙ h) reached
+
+  -- With c noted at a, the route from a over c is noted.
+  pub noted_led : node_limit ≤ length before → Led f a b c before → RouteNoted f a b c (set before a c)
+  noted_led room led =
+      let xs = way before b c in
+      let inside = walk_inside f n (λ p q e. (sends.sound.bounded p q e).1) a b (a ∷ xs) sends.from led.route.walk in
+      let short = apart_short n (a ∷ xs) led.route.apart inside in
+      let k = way_noted before b a c xs (omega (arith, room, few, sends.from)) sends.apart led.route.apart.0 led.leads (omega (arith, short, few)) in
+      let h = headed before b c xs led.leads in
+      record {
+        leads = subst (LeadsBack (set before a c) b a) k.1 k.0;
+        route = subst (Route f a b) k.1 led.route;
+        over = ap second (sym k.1) ∙ ap (λ (ys : List ℕ). second (a ∷ ys)) h.1;
+      }

@@ -29,6 +29,13 @@ vertex_yes order x xs l = ap (λ (b : Bool). cond b (x ∷ vertices order xs) (v
 pub vertex_no : (order x : ℕ) (xs : List ℕ) → order ≤ x → vertices order (x ∷ xs) ≡ vertices order xs
 vertex_no order x xs l = ap (λ (b : Bool). cond b (x ∷ vertices order xs) (vertices order xs)) (le-ltb x order l)
 
+-- The same of a node alone.
+pub one_yes : (order x : ℕ) → x < order → vertices order (x ∷ []) ≡ x ∷ []
+one_yes order x l = vertex_yes order x [] l
+
+pub one_no : (order x : ℕ) → order ≤ x → vertices order (x ∷ []) ≡ []
+one_no order x l = vertex_no order x [] l
+
 -- A vertex stands among them where it stands in the list.
 pub vertices_among : (order : ℕ) (xs : List ℕ) (v : ℕ) → among (vertices order xs) v ≡ (among xs v && ltb v order)
 vertices_among order xs v = among_kept (λ x. ltb x order) xs v

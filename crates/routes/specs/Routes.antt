@@ -3,10 +3,11 @@
 --   web           the arcs of a flow, as a digraph of their own
 --   Sends         a flow from a to b among n nodes, none of whose arcs leads to a
 --   Led           the notes lead from c on to b, and with a in front that is a route along the flow
+--   RouteNoted    the notes lead from a over c to b, and that is a route along the flow
 --   FlowRoutes    routes along a flow, ascending by second node, no two with an arc in common
 --   vertices      the vertices among the nodes of a route
 --   route_block   the bytes of one route: how many vertices, and which
---   noted_bytes   those of the route from a over c and the noted way
+--   noted_bytes   those of the route that is noted
 --   RouteRoom, RoutesRoom   there is room for the bytes of any route over c, and of any routes
 --   Taken         one route over c was taken out of a flow and written from a place on
 --   Told          as many routes as go out of a were written in front of a buffer
@@ -15,7 +16,7 @@ use Rattle.flows.specs.Lists.{in_front}
 use Rattle.flows.specs.Routes.{Route}
 use Rattle.flows.specs.Flow.{Digraph, Sound, Flow, out, without, NoneInto, ArcDisjoint}
 use Rattle.cuts.specs.RouteBytes.{bytes_of, route_bytes}
-use Rattle.cuts.specs.RouteRules.{Pairwise, Ascending}
+use Rattle.cuts.specs.RouteRules.{Pairwise, second, Ascending}
 use Rattle.augment.specs.Trails.{way, LeadsBack}
 use Rattle.plan.specs.Writing.{placed}
 
@@ -38,6 +39,12 @@ pub record Led (f : ℕ → ℕ → Bool) (a b c : ℕ) (before : List ℕ) : Ty
   pub leads : LeadsBack before b c (way before b c)
   pub route : Route f a b (a ∷ way before b c)
 
+-- So does the way by the notes from a.
+pub record RouteNoted (f : ℕ → ℕ → Bool) (a b c : ℕ) (before : List ℕ) : Type 0 where
+  pub leads : LeadsBack before b a (way before b a)
+  pub route : Route f a b (way before b a)
+  pub over : second (way before b a) ≡ c
+
 -- Routes from a to b, in the order in which they are read off.
 pub record FlowRoutes (f : ℕ → ℕ → Bool) (a b : ℕ) (routes : List (List ℕ)) : Type 0 where
   pub each : All (Route f a b) routes
@@ -53,13 +60,13 @@ abbrev pub route_block : List ℕ → List ℕ
 route_block xs = length xs ∷ xs
 
 -- Of the nodes of that route only the vertices are written.
-abbrev pub noted_bytes : ℕ → ℕ → ℕ → ℕ → List ℕ → List ℕ
-noted_bytes order a b c before = route_block (vertices order (a ∷ way before b c))
+abbrev pub noted_bytes : ℕ → ℕ → ℕ → List ℕ → List ℕ
+noted_bytes order a b before = route_block (vertices order (way before b a))
 
 -- From a place on there is room for the route, whichever it is.
 abbrev pub RouteRoom : ℕ → (ℕ → ℕ → Bool) → ℕ → ℕ → ℕ → ℕ → ℕ → Type 0
 RouteRoom order f a b c at room =
-    (xs : List ℕ) → Route f a b (a ∷ (c ∷ xs)) → at + length (route_block (vertices order (a ∷ (c ∷ xs)))) ≤ room
+    (xs : List ℕ) → Route f a b xs → second xs ≡ c → at + length (route_block (vertices order xs)) ≤ room
 
 -- There is room for all routes, whichever they are.
 abbrev pub RoutesRoom : ℕ → (ℕ → ℕ → Bool) → ℕ → ℕ → ℕ → Type 0
@@ -68,11 +75,12 @@ RoutesRoom order f a b room =
 
 -- The flow was f and is h; the bytes were `start` and are `now`, and place `next` comes next.
 pub record Taken (order : ℕ) (f h : ℕ → ℕ → Bool) (a b c at : ℕ) (start : List ℕ) (next : ℕ) (now : List ℕ) : Type 0 where
-  pub rest : List ℕ
-  pub route : Route f a b (a ∷ (c ∷ rest))
-  pub arcs : h ≡ without f (a ∷ (c ∷ rest))
-  pub behind : next ≡ at + length (route_block (vertices order (a ∷ (c ∷ rest))))
-  pub bytes : now ≡ placed at (route_block (vertices order (a ∷ (c ∷ rest)))) start
+  pub route : List ℕ
+  pub along : Route f a b route
+  pub over : second route ≡ c
+  pub arcs : h ≡ without f route
+  pub behind : next ≡ at + length (route_block (vertices order route))
+  pub bytes : now ≡ placed at (route_block (vertices order route)) start
 
 -- The bytes were `start` and are `now`.
 pub record Told (n order : ℕ) (f : ℕ → ℕ → Bool) (a b : ℕ) (start now : List ℕ) : Type 0 where

@@ -1,46 +1,42 @@
 // Routes written one after another, each taken out of the flow as it is written.
-ghost use Rattle.std.specs.Prelude.{◌≡◌, ◌-◌, ◌+◌, ◌<◌, ◌≤◌, ◌∷◌, List, ℕ, true, length};
+ghost use Rattle.std.specs.Prelude.{◌≡◌, ◌-◌, ◌+◌, ◌<◌, ◌≤◌, true, length};
 ghost use Rattle.graph.specs.Graph.{first};
-ghost use Rattle.flows.specs.Flow.{without};
 ghost use Rattle.rows.specs.Flow.{carried};
 ghost use Rattle.augment.specs.Trails.{way, LeadsBack};
 ghost use Rattle.plan.specs.Writing.{placed};
-ghost use Rattle.routes.specs.Routes.{Sends, Led, vertices, noted_bytes, RouteRoom, RoutesRoom, Taken, Told};
+ghost use Rattle.routes.specs.Routes.{Sends, vertices, noted_bytes, RouteRoom, RoutesRoom, Taken, Told};
 
 use crate::network::Network;
-use crate::seek::seek_way;
-use crate::way::{take_way, write_vertex, write_way};
+use crate::seek::note_route;
+use crate::way::{put, take_way, write_way};
 use augment::Notes;
 use rows::flow::Arcs;
 use search::Slots;
 
-// Writes the number and then the vertices of the route over its second node and the noted way, and says
-// which place comes next. The number is written last, so nothing is counted before.
-fn write_route(net: Network, notes: &Notes<'_>, second: u16, bytes: &mut [u8], at: usize) -> usize
-    requires way { LeadsBack notes.now.before.now net.to second (way notes.now.before.now net.to second) }
-    requires few { length (vertices net.order (net.from ∷ way notes.now.before.now net.to second)) < 256 }
-    requires room { at + length (noted_bytes net.order net.from net.to second notes.now.before.now) ≤ length bytes.old }
-    ensures next { result ≡ at + length (noted_bytes net.order net.from net.to second notes.now.before.now) }
-    ensures items { bytes.new ≡ placed at (noted_bytes net.order net.from net.to second notes.now.before.now) bytes.old }
+// How many vertices stand behind the place of their number and before the next place.
+fn count_behind(at: usize, next: usize) -> u8
+    requires { (at < next) × (next ≤ at + 256) }
+    ensures { at + 1 + result ≡ next }
 {
-    let behind = write_vertex(net.from, net.order, bytes, at + 1);
-    let end = write_way(notes, second, net.to, net.order, bytes, behind);
-    bytes[at] = (end - at - 1) as u8;
-    end
+    (next - at - 1) as u8
 }
 
-// Takes the route over its second node and the noted way out of the flow.
-fn take_route(net: Network, flow: &mut Arcs<'_>, notes: &Notes<'_>, second: u16)
-    requires led { Led (carried flow.old) net.from net.to second notes.now.before.now }
-    ensures arcs { carried flow.new ≡ without (carried flow.old) (net.from ∷ way notes.now.before.now net.to second) }
-    ensures same_reference { flow.new.words.ghost_name ≡ flow.old.words.ghost_name }
+// Writes the number and then the vertices of the noted route, and says which place comes next. The number
+// is written last, so nothing is counted before.
+fn write_route(net: Network, notes: &Notes<'_>, bytes: &mut [u8], at: usize) -> usize
+    requires way { LeadsBack notes.now.before.now net.to net.from (way notes.now.before.now net.to net.from) }
+    requires few { length (vertices net.order (way notes.now.before.now net.to net.from)) < 256 }
+    requires room { at + length (noted_bytes net.order net.from net.to notes.now.before.now) ≤ length bytes.old }
+    ensures next { result ≡ at + length (noted_bytes net.order net.from net.to notes.now.before.now) }
+    ensures items { bytes.new ≡ placed at (noted_bytes net.order net.from net.to notes.now.before.now) bytes.old }
 {
-    flow.take(net.from, second);
-    take_way(flow, notes, second, net.to);
+    let next = write_way(net, notes, bytes, at + 1);
+    put(bytes, at, count_behind(at, next));
+    next
 }
 
-// Seeks a route over its second node along the flow, takes it out and writes it from a place on; says
-// which place comes next.
+// Seeks a route over a second node along the flow, writes it from a place on and takes it out; says which
+// place comes next.
 fn draw(
     net: Network,
     flow: &mut Arcs<'_>,
@@ -57,9 +53,9 @@ fn draw(
     ensures same_reference { flow.new.words.ghost_name ≡ flow.old.words.ghost_name }
     ensures same_notes { notes.new.before.ghost_name ≡ notes.old.before.ghost_name }
 {
-    seek_way(net, flow, notes, slots, second);
-    let next = write_route(net, notes, second, bytes, at);
-    take_route(net, flow, notes, second);
+    note_route(net, flow, notes, slots, second);
+    let next = write_route(net, notes, bytes, at);
+    take_way(net, flow, notes);
     next
 }
 

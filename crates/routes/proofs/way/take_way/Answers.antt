@@ -1,44 +1,40 @@
-use Rattle.std.proofs.Common.{◌<◌, length, sym, refl, ap, ◌∙◌, arith}
+use Rattle.std.proofs.Common.{length, get_or, refl, sym, ap, ◌∙◌, arith}
 use Rattle.rows.specs.Flow.{carried}
-use Rattle.routes.proofs.Ways.{step, nodes, taken_last, taken_step}
+use Rattle.routes.proofs.Ways.{arc_ends, step, arc_step, route_step, taken_last, taken_step}
 use Rattle.routes.proofs.way.take_way.Goals as goal
 
-pub loop-p-init : goal.loop-p-init
-loop-p-init c = (c.requires.way, c.requires.nodes, refl, refl, refl)
-
--- The two ends of the arc are nodes of the way.
-pub take-requires : goal.take-requires
-take-requires c =
+-- The arc is one of the flow, so it has a tail and a head.
+pub take_noted-tail-requires : goal.take_noted-tail-requires
+take_noted-tail-requires c =
     let before = c.args.notes.now.before.now in
-    let k = nodes before c.args.to c.loop-p.p c.loop-p.invariant.0 c.loop-p-test.true c.noted-q.result c.noted-q.ensures
-    (λ x. x < c.args.flow.now.heads) c.loop-p.invariant.1 in
-    (omega (arith, k.0, c.args.flow.now.few), omega (arith, k.1, c.loop-p.invariant.4))
+    let l = c.loop-tail in
+    let q = get_or before l.tail 0 in
+    arc_ends l.flow l.tail q (arc_step before c.args.net.to l.tail l.invariant.0 c.loop-tail-test.true q refl (carried l.flow) l.invariant.1)
 
 -- The rest of the way is shorter.
-pub loop-p-smaller : goal.loop-p-smaller
-loop-p-smaller c =
-    let k = step c.args.notes.now.before.now c.args.to c.loop-p.p c.loop-p.invariant.0 c.loop-p-test.true c.noted-q.result c.noted-q.ensures in
+pub loop-tail-smaller : goal.loop-tail-smaller
+loop-tail-smaller c =
+    let before = c.args.notes.now.before.now in
+    let k = step before c.args.net.to c.loop-tail.tail c.loop-tail.invariant.0 c.loop-tail-test.true c.take_noted-tail.result c.take_noted-tail.ensures.node in
     omega (arith, ap length k.0)
 
-pub loop-p-preserved : goal.loop-p-preserved
-loop-p-preserved c =
+-- It goes on along what is left.
+pub loop-tail-preserved : goal.loop-tail-preserved
+loop-tail-preserved c =
     let before = c.args.notes.now.before.now in
-    let k = step before c.args.to c.loop-p.p c.loop-p.invariant.0 c.loop-p-test.true c.noted-q.result c.noted-q.ensures in
-    let m = nodes before c.args.to c.loop-p.p c.loop-p.invariant.0 c.loop-p-test.true c.noted-q.result c.noted-q.ensures
-    (λ x. x < c.args.flow.now.heads) c.loop-p.invariant.1 in
-    let t = taken_step before c.args.to c.loop-p.p c.loop-p.invariant.0 c.loop-p-test.true c.noted-q.result c.noted-q.ensures
-    (carried c.loop-p.flow) (carried c.take.new.self) c.take.ensures.arcs in (
-      k.1,
-      m.2,
-      t ∙ c.loop-p.invariant.2,
-      c.take.ensures.same_reference ∙ c.loop-p.invariant.3,
-      c.take.ensures.heads ∙ c.loop-p.invariant.4,
-    )
+    let to = c.args.net.to in
+    let l = c.loop-tail in
+    let t = c.take_noted-tail in
+    let f = carried l.flow in
+    let h = carried t.new.flow in
+    let q = get_or before l.tail 0 in
+    let on = route_step before to l.tail l.invariant.0 c.loop-tail-test.true q refl f h t.ensures.arcs l.invariant.1 in
+    let taken = taken_step before to l.tail l.invariant.0 c.loop-tail-test.true q refl f h t.ensures.arcs in
+    rw t.ensures.node
+    ((step before to l.tail l.invariant.0 c.loop-tail-test.true q refl).1, on, taken ∙ l.invariant.2, t.ensures.same_reference ∙ l.invariant.3)
 
 -- At the end of the way all is taken.
 pub returns-clause-arcs : goal.returns-clause-arcs
 returns-clause-arcs c =
-    sym (taken_last c.args.notes.now.before.now c.args.to c.loop-p.p c.loop-p.invariant.0 (carried c.loop-p.flow) c.loop-p-test.false) ∙ c.loop-p.invariant.2
-
-pub returns-clause-same_reference : goal.returns-clause-same_reference
-returns-clause-same_reference c = c.loop-p.invariant.3
+    let l = c.loop-tail in
+    sym (taken_last c.args.notes.now.before.now c.args.net.to l.tail l.invariant.0 (carried l.flow) c.loop-tail-test.false) ∙ l.invariant.2

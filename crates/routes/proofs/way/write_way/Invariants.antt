@@ -1,4 +1,5 @@
--- The notes lead on from p; what is written so far, and the vertices of the rest of the way behind it, are those of the whole way.
+-- The notes lead on from p; what is written so far, and the vertices of the rest of the way behind it, are
+-- those of the whole way.
 use Rattle.std.proofs.Common.{◌≡◌, ◌+◌, length}
 use Rattle.augment.specs.Trails.{way, LeadsBack}
 use Rattle.plan.specs.Writing.{placed}
@@ -8,9 +9,11 @@ use Rattle.routes.proofs.way.write_way.Given as goal
 abbrev pub invariant-loop-p : goal.invariant-loop-p
 invariant-loop-p l =
     let before = l.notes.before.now in
-    LeadsBack before l.to l.p (way before l.to l.p)
-    × (l.end + length (vertices l.order (way before l.to l.p)) ≡ l.at + length (vertices l.order (way before l.to l.from)))
-    × (placed l.end (vertices l.order (way before l.to l.p)) l.bytes ≡ placed l.at (vertices l.order (way before l.to l.from)) l.initial.bytes)
+    let rest = vertices l.net.order (way before l.net.to l.p) in
+    let all = vertices l.net.order (way before l.net.to l.net.from) in
+    LeadsBack before l.net.to l.p (way before l.net.to l.p)
+    × (l.end + length rest ≡ l.at + length all)
+    × (placed l.end rest l.bytes ≡ placed l.at all l.initial.bytes)
 
 abbrev pub decreases-loop-p : goal.decreases-loop-p
-decreases-loop-p l = length (way l.notes.before.now l.to l.p)
+decreases-loop-p l = length (way l.notes.before.now l.net.to l.p)
