@@ -3,10 +3,10 @@
 #![tactic(auto)]
 
 mod bare;
-mod network;
 mod route;
 mod seek;
 mod way;
+mod web;
 
-pub use network::Network;
 pub use route::write_routes;
+pub use web::Web;

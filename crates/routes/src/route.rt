@@ -6,9 +6,9 @@ ghost use Rattle.augment.specs.Trails.{way, LeadsBack};
 ghost use Rattle.plan.specs.Writing.{placed};
 ghost use Rattle.routes.specs.Routes.{Sends, vertices, noted_bytes, RouteRoom, RoutesRoom, Taken, Told};
 
-use crate::network::Network;
 use crate::seek::note_route;
 use crate::way::{put, take_way, write_way};
+use crate::web::Web;
 use augment::Notes;
 use rows::flow::Arcs;
 use search::Slots;
@@ -23,14 +23,14 @@ fn count_behind(at: usize, next: usize) -> u8
 
 // Writes the number and then the vertices of the noted route, and says which place comes next. The number
 // is written last, so nothing is counted before.
-fn write_route(net: Network, notes: &Notes<'_>, bytes: &mut [u8], at: usize) -> usize
-    requires way { LeadsBack notes.now.before.now net.to net.from (way notes.now.before.now net.to net.from) }
-    requires few { length (vertices net.order (way notes.now.before.now net.to net.from)) < 256 }
-    requires room { at + length (noted_bytes net.order net.from net.to notes.now.before.now) ≤ length bytes.old }
-    ensures next { result ≡ at + length (noted_bytes net.order net.from net.to notes.now.before.now) }
-    ensures items { bytes.new ≡ placed at (noted_bytes net.order net.from net.to notes.now.before.now) bytes.old }
+fn write_route(web: Web, notes: &Notes<'_>, bytes: &mut [u8], at: usize) -> usize
+    requires way { LeadsBack notes.now.before.now web.to web.from (way notes.now.before.now web.to web.from) }
+    requires few { length (vertices web.order (way notes.now.before.now web.to web.from)) < 256 }
+    requires room { at + length (noted_bytes web.order web.from web.to notes.now.before.now) ≤ length bytes.old }
+    ensures next { result ≡ at + length (noted_bytes web.order web.from web.to notes.now.before.now) }
+    ensures items { bytes.new ≡ placed at (noted_bytes web.order web.from web.to notes.now.before.now) bytes.old }
 {
-    let next = write_way(net, notes, bytes, at + 1);
+    let next = write_way(web, notes, bytes, at + 1);
     put(bytes, at, count_behind(at, next));
     next
 }
@@ -38,7 +38,7 @@ fn write_route(net: Network, notes: &Notes<'_>, bytes: &mut [u8], at: usize) -> 
 // Seeks a route over a second node along the flow, writes it from a place on and takes it out; says which
 // place comes next.
 fn draw(
-    net: Network,
+    web: Web,
     flow: &mut Arcs<'_>,
     notes: &mut Notes<'_>,
     slots: &mut Slots<'_, u16>,
@@ -46,16 +46,16 @@ fn draw(
     bytes: &mut [u8],
     at: usize,
 ) -> usize
-    requires flow { Sends net.nodes (carried flow.old) net.from net.to }
-    requires arc { carried flow.old net.from second ≡ true }
-    requires room { RouteRoom net.order (carried flow.old) net.from net.to second at (length bytes.old) }
-    ensures taken { Taken net.order (carried flow.old) (carried flow.new) net.from net.to second at bytes.old result bytes.new }
+    requires flow { Sends web.nodes (carried flow.old) web.from web.to }
+    requires arc { carried flow.old web.from second ≡ true }
+    requires room { RouteRoom web.order (carried flow.old) web.from web.to second at (length bytes.old) }
+    ensures taken { Taken web.order (carried flow.old) (carried flow.new) web.from web.to second at bytes.old result bytes.new }
     ensures same_reference { flow.new.words.ghost_name ≡ flow.old.words.ghost_name }
     ensures same_notes { notes.new.before.ghost_name ≡ notes.old.before.ghost_name }
 {
-    note_route(net, flow, notes, slots, second);
-    let next = write_route(net, notes, bytes, at);
-    take_way(net, flow, notes);
+    note_route(web, flow, notes, slots, second);
+    let next = write_route(web, notes, bytes, at);
+    take_way(web, flow, notes);
     next
 }
 
@@ -75,20 +75,20 @@ fn next_head(flow: &Arcs<'_>, p: u16, w: u16, n: u16) -> Option<u16>
 // Takes all routes out of the flow, by their second nodes ascending, and writes their vertices from the
 // first byte on. Bytes past them keep their content. The loop leaps from one second node to the next.
 pub fn write_routes(
-    net: Network,
+    web: Web,
     flow: &mut Arcs<'_>,
     notes: &mut Notes<'_>,
     slots: &mut Slots<'_, u16>,
     bytes: &mut [u8],
 )
-    requires flow { Sends net.nodes (carried flow.old) net.from net.to }
-    requires room { RoutesRoom net.order (carried flow.old) net.from net.to (length bytes.old) }
-    ensures told { Told net.nodes net.order (carried flow.old) net.from net.to bytes.old bytes.new }
+    requires flow { Sends web.nodes (carried flow.old) web.from web.to }
+    requires room { RoutesRoom web.order (carried flow.old) web.from web.to (length bytes.old) }
+    ensures told { Told web.nodes web.order (carried flow.old) web.from web.to bytes.old bytes.new }
 {
     let mut at = 0;
     let mut w = 0;
-    while let Some(second) = next_head(flow, net.from, w, net.nodes) {
-        at = draw(net, flow, notes, slots, second, bytes, at);
+    while let Some(second) = next_head(flow, web.from, w, web.nodes) {
+        at = draw(web, flow, notes, slots, second, bytes, at);
         w = second + 1;
     }
 }

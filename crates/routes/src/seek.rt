@@ -4,7 +4,7 @@ ghost use Rattle.rows.specs.Flow.{carried};
 ghost use Rattle.routes.specs.Routes.{Sends, Led, RouteNoted};
 
 use crate::bare::Bare;
-use crate::network::Network;
+use crate::web::Web;
 use augment::Notes;
 use rows::flow::Arcs;
 use rows::marks::Marks;
@@ -14,19 +14,19 @@ use search::{Slots, far_from, search};
 // goes on. Where the second node is the end, nothing has to be noted. Without arcs every node is far from
 // the goal of the search.
 fn seek_way(
-    net: Network,
+    web: Web,
     flow: &Arcs<'_>,
     notes: &mut Notes<'_>,
     slots: &mut Slots<'_, u16>,
     second: u16,
 )
-    requires flow { Sends net.nodes (carried flow.now) net.from net.to }
-    requires arc { carried flow.now net.from second ≡ true }
-    ensures way { Led (carried flow.now) net.from net.to second notes.new.before.now }
+    requires flow { Sends web.nodes (carried flow.now) web.from web.to }
+    requires arc { carried flow.now web.from second ≡ true }
+    ensures way { Led (carried flow.now) web.from web.to second notes.new.before.now }
     ensures same_reference { notes.new.before.ghost_name ≡ notes.old.before.ghost_name }
 {
-    if second != net.to {
-        let mut plan = Bare::of(net.nodes);
+    if second != web.to {
+        let mut plan = Bare::of(web.nodes);
         let far = far_from(&mut plan, second);
         let mut marks = Marks::none();
         search(
@@ -35,7 +35,7 @@ fn seek_way(
             &mut marks,
             notes,
             slots,
-            net.to,
+            web.to,
             Some(second),
             &far,
         );
@@ -44,17 +44,17 @@ fn seek_way(
 
 // Notes a route along the flow over a second node.
 pub(crate) fn note_route(
-    net: Network,
+    web: Web,
     flow: &Arcs<'_>,
     notes: &mut Notes<'_>,
     slots: &mut Slots<'_, u16>,
     second: u16,
 )
-    requires flow { Sends net.nodes (carried flow.now) net.from net.to }
-    requires arc { carried flow.now net.from second ≡ true }
-    ensures route { RouteNoted (carried flow.now) net.from net.to second notes.new.before.now }
+    requires flow { Sends web.nodes (carried flow.now) web.from web.to }
+    requires arc { carried flow.now web.from second ≡ true }
+    ensures route { RouteNoted (carried flow.now) web.from web.to second notes.new.before.now }
     ensures same_reference { notes.new.before.ghost_name ≡ notes.old.before.ghost_name }
 {
-    seek_way(net, flow, notes, slots, second);
-    notes.note(net.from, second);
+    seek_way(web, flow, notes, slots, second);
+    notes.note(web.from, second);
 }

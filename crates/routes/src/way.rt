@@ -10,7 +10,7 @@ ghost use Rattle.augment.specs.Trails.{way, LeadsBack};
 ghost use Rattle.plan.specs.Writing.{placed};
 ghost use Rattle.routes.specs.Routes.{vertices};
 
-use crate::network::Network;
+use crate::web::Web;
 use augment::Notes;
 use rows::flow::Arcs;
 
@@ -27,14 +27,14 @@ fn take_noted(flow: &mut Arcs<'_>, notes: &Notes<'_>, p: u16) -> u16
 }
 
 // Takes the arcs of the way out of the flow.
-pub(crate) fn take_way(net: Network, flow: &mut Arcs<'_>, notes: &Notes<'_>)
-    requires way { LeadsBack notes.now.before.now net.to net.from (way notes.now.before.now net.to net.from) }
-    requires route { Route (carried flow.old) net.from net.to (way notes.now.before.now net.to net.from) }
-    ensures arcs { carried flow.new ≡ without (carried flow.old) (way notes.now.before.now net.to net.from) }
+pub(crate) fn take_way(web: Web, flow: &mut Arcs<'_>, notes: &Notes<'_>)
+    requires way { LeadsBack notes.now.before.now web.to web.from (way notes.now.before.now web.to web.from) }
+    requires route { Route (carried flow.old) web.from web.to (way notes.now.before.now web.to web.from) }
+    ensures arcs { carried flow.new ≡ without (carried flow.old) (way notes.now.before.now web.to web.from) }
     ensures same_reference { flow.new.words.ghost_name ≡ flow.old.words.ghost_name }
 {
-    let mut tail = net.from;
-    while tail != net.to {
+    let mut tail = web.from;
+    while tail != web.to {
         tail = take_noted(flow, notes, tail);
     }
 }
@@ -65,17 +65,17 @@ fn write_vertex(p: u16, order: u16, bytes: &mut [u8], at: usize) -> usize
 }
 
 // Writes the vertices of the way from a place on, and says which place comes next.
-pub(crate) fn write_way(net: Network, notes: &Notes<'_>, bytes: &mut [u8], at: usize) -> usize
-    requires way { LeadsBack notes.now.before.now net.to net.from (way notes.now.before.now net.to net.from) }
-    requires room { at + length (vertices net.order (way notes.now.before.now net.to net.from)) ≤ length bytes.old }
-    ensures next { result ≡ at + length (vertices net.order (way notes.now.before.now net.to net.from)) }
-    ensures items { bytes.new ≡ placed at (vertices net.order (way notes.now.before.now net.to net.from)) bytes.old }
+pub(crate) fn write_way(web: Web, notes: &Notes<'_>, bytes: &mut [u8], at: usize) -> usize
+    requires way { LeadsBack notes.now.before.now web.to web.from (way notes.now.before.now web.to web.from) }
+    requires room { at + length (vertices web.order (way notes.now.before.now web.to web.from)) ≤ length bytes.old }
+    ensures next { result ≡ at + length (vertices web.order (way notes.now.before.now web.to web.from)) }
+    ensures items { bytes.new ≡ placed at (vertices web.order (way notes.now.before.now web.to web.from)) bytes.old }
 {
-    let mut p = net.from;
+    let mut p = web.from;
     let mut end = at;
-    while p != net.to {
-        end = write_vertex(p, net.order, bytes, end);
+    while p != web.to {
+        end = write_vertex(p, web.order, bytes, end);
         p = notes.noted(p);
     }
-    write_vertex(p, net.order, bytes, end)
+    write_vertex(p, web.order, bytes, end)
 }

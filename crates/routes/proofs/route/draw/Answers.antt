@@ -7,22 +7,22 @@ use Rattle.routes.proofs.route.draw.Goals as goal
 -- A route has few vertices.
 pub write_route-next-requires-clause-few : goal.write_route-next-requires-clause-few
 write_route-next-requires-clause-few c =
-    let net = c.args.net in
-    let ws = way c.note_route.new.notes.before.now net.to net.from in
-    omega (arith, vertices_few net.order ws c.note_route.ensures.route.route.apart, net.small)
+    let web = c.args.web in
+    let ws = way c.note_route.new.notes.before.now web.to web.from in
+    omega (arith, vertices_few web.order ws c.note_route.ensures.route.route.apart, web.small)
 
 -- There is room for it.
 pub write_route-next-requires-clause-room : goal.write_route-next-requires-clause-room
 write_route-next-requires-clause-room c =
     let led = c.note_route.ensures.route in
-    c.requires.room (way c.note_route.new.notes.before.now c.args.net.to c.args.net.from) led.route led.over
+    c.requires.room (way c.note_route.new.notes.before.now c.args.web.to c.args.web.from) led.route led.over
 
 -- It is the one that is written and taken out.
 pub returns-clause-taken : goal.returns-clause-taken
 returns-clause-taken c =
     let led = c.note_route.ensures.route in
     record {
-      route = way c.note_route.new.notes.before.now c.args.net.to c.args.net.from;
+      route = way c.note_route.new.notes.before.now c.args.web.to c.args.web.from;
       along = led.route;
       over = led.over;
       arcs = c.take_way.ensures.arcs;

@@ -7,7 +7,7 @@ use Rattle.routes.proofs.route.write_route.Goals as goal
 
 pub returns-clause-items : goal.returns-clause-items
 returns-clause-items c =
-    let ws = vertices c.args.net.order (way c.args.notes.now.before.now c.args.net.to c.args.net.from) in
+    let ws = vertices c.args.web.order (way c.args.notes.now.before.now c.args.web.to c.args.web.from) in
     let written = c.write_way-next.ensures in
     block_placed c.args.at c.write_way-next.result c.count_behind.result ws c.args.bytes.now c.write_way-next.new.bytes c.put.new.bytes
     (omega (arith, c.requires.room)) written.items written.next c.count_behind.ensures c.put.ensures

@@ -7,37 +7,37 @@ use Rattle.routes.proofs.route.write_routes.Goals as goal
 
 pub loop-second-init : goal.loop-second-init
 loop-second-init c =
-    let net = c.args.net in
-    sofar_none net.nodes net.order (carried c.args.flow.now) net.from net.to c.args.bytes.now c.requires.flow
+    let web = c.args.web in
+    sofar_none web.nodes web.order (carried c.args.flow.now) web.from web.to c.args.bytes.now c.requires.flow
 
 pub draw-at-requires-clause-arc : goal.draw-at-requires-clause-arc
 draw-at-requires-clause-arc c =
-    let net = c.args.net in
-    (first_some (carried c.loop-second.flow net.from) c.loop-second.w net.nodes c.in-Some.second (sym c.next_head.ensures ∙ c.in-Some.is)).here
+    let web = c.args.web in
+    (first_some (carried c.loop-second.flow web.from) c.loop-second.w web.nodes c.in-Some.second (sym c.next_head.ensures ∙ c.in-Some.is)).here
 
 -- One more route along what is left keeps the rules, and there is room for all that do.
 pub draw-at-requires-clause-room : goal.draw-at-requires-clause-room
 draw-at-requires-clause-room c =
-    let net = c.args.net in
+    let web = c.args.web in
     let l = c.loop-second in
-    let k = first_some (carried l.flow net.from) l.w net.nodes c.in-Some.second (sym c.next_head.ensures ∙ c.in-Some.is) in
-    sofar_room net.nodes net.order (carried c.args.flow.now) (carried l.flow) net.from net.to l.w l.at c.args.bytes.now l.bytes l.invariant
+    let k = first_some (carried l.flow web.from) l.w web.nodes c.in-Some.second (sym c.next_head.ensures ∙ c.in-Some.is) in
+    sofar_room web.nodes web.order (carried c.args.flow.now) (carried l.flow) web.from web.to l.w l.at c.args.bytes.now l.bytes l.invariant
     c.in-Some.second k.from c.requires.room
 
 pub loop-second-preserved : goal.loop-second-preserved
 loop-second-preserved c =
-    let net = c.args.net in
+    let web = c.args.web in
     let l = c.loop-second in
-    let k = first_some (carried l.flow net.from) l.w net.nodes c.in-Some.second (sym c.next_head.ensures ∙ c.in-Some.is) in
-    sofar_more net.nodes net.order (carried c.args.flow.now) (carried l.flow) net.from net.to l.w l.at c.args.bytes.now l.bytes l.invariant
+    let k = first_some (carried l.flow web.from) l.w web.nodes c.in-Some.second (sym c.next_head.ensures ∙ c.in-Some.is) in
+    sofar_more web.nodes web.order (carried c.args.flow.now) (carried l.flow) web.from web.to l.w l.at c.args.bytes.now l.bytes l.invariant
     c.in-Some.second k.from c.requires.room k.none (carried c.draw-at.new.flow) c.draw-at.result c.draw-at.new.bytes c.draw-at.ensures.taken
 
 -- No head is left.
 pub returns : goal.returns
 returns c =
-    let net = c.args.net in
+    let web = c.args.web in
     let l = c.loop-second in
     record {
-      told = sofar_all net.nodes net.order (carried c.args.flow.now) (carried l.flow) net.from net.to l.w l.at c.args.bytes.now l.bytes l.invariant
-          (first_all (carried l.flow net.from) l.w net.nodes (sym c.next_head.ensures ∙ c.in_default.is));
+      told = sofar_all web.nodes web.order (carried c.args.flow.now) (carried l.flow) web.from web.to l.w l.at c.args.bytes.now l.bytes l.invariant
+          (first_all (carried l.flow web.from) l.w web.nodes (sym c.next_head.ensures ∙ c.in_default.is));
     }

@@ -6,7 +6,7 @@ use Rattle.routes.proofs.route.write_routes.Given as goal
 
 abbrev pub invariant-loop-second : goal.invariant-loop-second
 invariant-loop-second l =
-    Sofar l.net.nodes l.net.order (carried l.initial.flow) (carried l.flow) l.net.from l.net.to l.w l.at l.initial.bytes l.bytes
+    Sofar l.web.nodes l.web.order (carried l.initial.flow) (carried l.flow) l.web.from l.web.to l.w l.at l.initial.bytes l.bytes
 
 abbrev pub decreases-loop-second : goal.decreases-loop-second
-decreases-loop-second l = l.net.nodes - l.w
+decreases-loop-second l = l.web.nodes - l.w

@@ -14,26 +14,26 @@ use Rattle.routes.proofs.seek.seek_way.Goals as goal
 pub search-requires-clause-goal : goal.search-requires-clause-goal
 search-requires-clause-goal c =
     let f = carried c.args.flow.now in
-    let inside = (c.requires.flow.sound.bounded c.args.net.from c.args.second c.requires.arc).1 in
+    let inside = (c.requires.flow.sound.bounded c.args.web.from c.args.second c.requires.arc).1 in
     rw c.far_from-far.ensures.same
     (rw c.of-plan.ensures inside, all_closed c.of-plan.result.nodes c.args.second f (marked c.far_from-far.result) c.far_from-far.ensures.far)
 
-pub returns-then-second-net-clause-way : goal.returns-then-second-net-clause-way
-returns-then-second-net-clause-way c =
-    let net = c.args.net in
+pub returns-then-second-web-clause-way : goal.returns-then-second-web-clause-way
+returns-then-second-web-clause-way c =
+    let web = c.args.web in
     let f = carried c.args.flow.now in
     let before = c.search.new.notes.before.now in
     let size = ap (λ (p : Bare). p.nodes) c.far_from-far.ensures.same ∙ c.of-plan.ensures in
     elim (cases_Bool c.search.result) [
-      | inl e ↦ led_found net.nodes f net.from net.to c.args.second net.few c.requires.flow c.requires.arc before (c.search.ensures.found e)
+      | inl e ↦ led_found web.nodes f web.from web.to c.args.second web.few c.requires.flow c.requires.arc before (c.search.ensures.found e)
       | inr e ↦
-          let missed = subst (λ (n : ℕ). residual_side (bare n) f net.to c.args.second ≡ false) size (c.search.ensures.missed e) in
-          absurd (found net.nodes f net.from net.to c.args.second net.few c.requires.flow c.requires.arc before missed)
+          let missed = subst (λ (n : ℕ). residual_side (bare n) f web.to c.args.second ≡ false) size (c.search.ensures.missed e) in
+          absurd (found web.nodes f web.from web.to c.args.second web.few c.requires.flow c.requires.arc before missed)
     ]
 
 -- At the end there is nothing to seek.
-pub returns-else-second-net-clause-way : goal.returns-else-second-net-clause-way
-returns-else-second-net-clause-way c =
-    let net = c.args.net in
+pub returns-else-second-web-clause-way : goal.returns-else-second-web-clause-way
+returns-else-second-web-clause-way c =
+    let web = c.args.web in
     let f = carried c.args.flow.now in
-    led_end net.nodes f net.from net.to c.args.second net.few c.requires.flow c.requires.arc c.args.notes.now.before.now c.if-second-net.false
+    led_end web.nodes f web.from web.to c.args.second web.few c.requires.flow c.requires.arc c.args.notes.now.before.now c.if-second-web.false

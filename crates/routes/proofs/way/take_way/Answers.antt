@@ -9,20 +9,20 @@ take_noted-tail-requires c =
     let before = c.args.notes.now.before.now in
     let l = c.loop-tail in
     let q = get_or before l.tail 0 in
-    arc_ends l.flow l.tail q (arc_step before c.args.net.to l.tail l.invariant.0 c.loop-tail-test.true q refl (carried l.flow) l.invariant.1)
+    arc_ends l.flow l.tail q (arc_step before c.args.web.to l.tail l.invariant.0 c.loop-tail-test.true q refl (carried l.flow) l.invariant.1)
 
 -- The rest of the way is shorter.
 pub loop-tail-smaller : goal.loop-tail-smaller
 loop-tail-smaller c =
     let before = c.args.notes.now.before.now in
-    let k = step before c.args.net.to c.loop-tail.tail c.loop-tail.invariant.0 c.loop-tail-test.true c.take_noted-tail.result c.take_noted-tail.ensures.node in
+    let k = step before c.args.web.to c.loop-tail.tail c.loop-tail.invariant.0 c.loop-tail-test.true c.take_noted-tail.result c.take_noted-tail.ensures.node in
     omega (arith, ap length k.0)
 
 -- It goes on along what is left.
 pub loop-tail-preserved : goal.loop-tail-preserved
 loop-tail-preserved c =
     let before = c.args.notes.now.before.now in
-    let to = c.args.net.to in
+    let to = c.args.web.to in
     let l = c.loop-tail in
     let t = c.take_noted-tail in
     let f = carried l.flow in
@@ -37,4 +37,4 @@ loop-tail-preserved c =
 pub returns-clause-arcs : goal.returns-clause-arcs
 returns-clause-arcs c =
     let l = c.loop-tail in
-    sym (taken_last c.args.notes.now.before.now c.args.net.to l.tail l.invariant.0 (carried l.flow) c.loop-tail-test.false) ∙ l.invariant.2
+    sym (taken_last c.args.notes.now.before.now c.args.web.to l.tail l.invariant.0 (carried l.flow) c.loop-tail-test.false) ∙ l.invariant.2

@@ -10,45 +10,55 @@ use Rattle.routes.proofs.way.write_way.Goals as goal
 -- There is room for what is left of the way.
 pub write_vertex-end-requires-clause-room : goal.write_vertex-end-requires-clause-room
 write_vertex-end-requires-clause-room c =
+    let l = c.loop-p in
+    let web = c.args.web in
     let before = c.args.notes.now.before.now in
-    let v = vertices_way before c.args.net.to c.loop-p.p c.loop-p.invariant.0 c.loop-p-test.true (get_or before c.loop-p.p 0) refl c.args.net.order in
-    let long = ap length v ∙ length-append (vertices c.args.net.order (c.loop-p.p ∷ [])) (vertices c.args.net.order (way before c.args.net.to (get_or before c.loop-p.p 0))) in
-    omega (arith, long, c.loop-p.invariant.1, c.requires.room, c.loop-p.auto.bytes)
+    let q = get_or before l.p 0 in
+    let v = vertices_way before web.to l.p l.invariant.0 c.loop-p-test.true q refl web.order in
+    let long = ap length v ∙ length-append (vertices web.order (l.p ∷ [])) (vertices web.order (way before web.to q)) in
+    omega (arith, long, l.invariant.1, c.requires.room, l.auto.bytes)
 
 -- The rest of the way is shorter.
 pub loop-p-smaller : goal.loop-p-smaller
 loop-p-smaller c =
-    let k = step c.args.notes.now.before.now c.args.net.to c.loop-p.p c.loop-p.invariant.0 c.loop-p-test.true c.noted-p.result c.noted-p.ensures in
+    let l = c.loop-p in
+    let k = step c.args.notes.now.before.now c.args.web.to l.p l.invariant.0 c.loop-p-test.true c.noted-p.result c.noted-p.ensures in
     omega (arith, ap length k.0)
 
+-- The vertices of the rest stand behind that of p, if it is one.
 pub loop-p-preserved : goal.loop-p-preserved
 loop-p-preserved c =
+    let l = c.loop-p in
+    let web = c.args.web in
     let before = c.args.notes.now.before.now in
-    let k = step before c.args.net.to c.loop-p.p c.loop-p.invariant.0 c.loop-p-test.true c.noted-p.result c.noted-p.ensures in
-    let v = vertices_way before c.args.net.to c.loop-p.p c.loop-p.invariant.0 c.loop-p-test.true c.noted-p.result c.noted-p.ensures c.args.net.order in
-    let one = vertices c.args.net.order (c.loop-p.p ∷ []) in
-    let rest = vertices c.args.net.order (way before c.args.net.to c.noted-p.result) in
+    let q = c.noted-p.result in
+    let k = step before web.to l.p l.invariant.0 c.loop-p-test.true q c.noted-p.ensures in
+    let v = vertices_way before web.to l.p l.invariant.0 c.loop-p-test.true q c.noted-p.ensures web.order in
+    let one = vertices web.order (l.p ∷ []) in
+    let rest = vertices web.order (way before web.to q) in
     let long = ap length v ∙ length-append one rest in
-    let here : c.loop-p.end + length one ≤ length c.loop-p.bytes = omega (arith, long, c.loop-p.invariant.1, c.requires.room, c.loop-p.auto.bytes) in
-    let w = ap₂ (λ (e : ℕ) (bs : List ℕ). placed e rest bs) c.write_vertex-end.ensures.next c.write_vertex-end.ensures.items
-    ∙ placed_more c.loop-p.end one c.loop-p.bytes here rest
-    ∙ ap (λ (xs : List ℕ). placed c.loop-p.end xs c.loop-p.bytes) (sym v) in
-    (k.1, omega (arith, long, c.loop-p.invariant.1, c.write_vertex-end.ensures.next), w ∙ c.loop-p.invariant.2)
+    let here : l.end + length one ≤ length l.bytes = omega (arith, long, l.invariant.1, c.requires.room, l.auto.bytes) in
+    let written = c.write_vertex-end.ensures in
+    let behind = ap₂ (λ (e : ℕ) (bs : List ℕ). placed e rest bs) written.next written.items
+    ∙ placed_more l.end one l.bytes here rest
+    ∙ ap (λ (xs : List ℕ). placed l.end xs l.bytes) (sym v) in
+    (k.1, omega (arith, long, l.invariant.1, written.next), behind ∙ l.invariant.2)
 
 -- The last node is the whole rest.
 pub write_vertex-requires-clause-room : goal.write_vertex-requires-clause-room
 write_vertex-requires-clause-room c =
-    let one = ap (λ (xs : List ℕ). length (vertices c.args.net.order xs)) (way_last c.args.notes.now.before.now c.args.net.to c.loop-p.p c.loop-p-test.false) in
-    omega (arith, one, c.loop-p.invariant.1, c.requires.room, c.loop-p.auto.bytes)
+    let l = c.loop-p in
+    let one = way_last c.args.notes.now.before.now c.args.web.to l.p c.loop-p-test.false in
+    omega (arith, ap (λ (xs : List ℕ). length (vertices c.args.web.order xs)) one, l.invariant.1, c.requires.room, l.auto.bytes)
 
 pub returns-clause-next : goal.returns-clause-next
 returns-clause-next c =
-    let one = ap (λ (xs : List ℕ). length (vertices c.args.net.order xs)) (way_last c.args.notes.now.before.now c.args.net.to c.loop-p.p c.loop-p-test.false) in
-    omega (arith, one, c.loop-p.invariant.1, c.write_vertex.ensures.next)
+    let l = c.loop-p in
+    let one = way_last c.args.notes.now.before.now c.args.web.to l.p c.loop-p-test.false in
+    omega (arith, ap (λ (xs : List ℕ). length (vertices c.args.web.order xs)) one, l.invariant.1, c.write_vertex.ensures.next)
 
 pub returns-clause-items : goal.returns-clause-items
 returns-clause-items c =
-    let one = way_last c.args.notes.now.before.now c.args.net.to c.loop-p.p c.loop-p-test.false in
-    c.write_vertex.ensures.items
-    ∙ ap (λ (xs : List ℕ). placed c.loop-p.end (vertices c.args.net.order xs) c.loop-p.bytes) (sym one)
-    ∙ c.loop-p.invariant.2
+    let l = c.loop-p in
+    let one = way_last c.args.notes.now.before.now c.args.web.to l.p c.loop-p-test.false in
+    c.write_vertex.ensures.items ∙ ap (λ (xs : List ℕ). placed l.end (vertices c.args.web.order xs) l.bytes) (sym one) ∙ l.invariant.2
