@@ -24,7 +24,7 @@ use Rattle.plan.specs.Writing.{placed}
 abbrev pub web : ℕ → (ℕ → ℕ → Bool) → Digraph
 web n f = record { nodes = n; arc = f }
 
--- The flow has a value, and no arc of it leads to a.
+-- A flow of some value from a to b, two of the n nodes. Its arcs lead between these nodes, and none to a.
 pub record Sends (n : ℕ) (f : ℕ → ℕ → Bool) (a b : ℕ) : Type 0 where
   pub value : ℕ
   pub flow : Flow (web n f) a b f value
@@ -34,18 +34,18 @@ pub record Sends (n : ℕ) (f : ℕ → ℕ → Bool) (a b : ℕ) : Type 0 where
   pub to : b < n
   pub apart : a ≢ b
 
--- The way by the notes from c goes along the flow.
+-- The notes lead from c on to b; with a in front, that is a route from a to b along the flow.
 pub record Led (f : ℕ → ℕ → Bool) (a b c : ℕ) (before : List ℕ) : Type 0 where
   pub leads : LeadsBack before b c (way before b c)
   pub route : Route f a b (a ∷ way before b c)
 
--- So does the way by the notes from a.
+-- The notes lead from a to b; that is a route along the flow, and c is its second node.
 pub record RouteNoted (f : ℕ → ℕ → Bool) (a b c : ℕ) (before : List ℕ) : Type 0 where
   pub leads : LeadsBack before b a (way before b a)
   pub route : Route f a b (way before b a)
   pub over : second (way before b a) ≡ c
 
--- Routes from a to b, in the order in which they are read off.
+-- Routes from a to b along the flow, ascending by second node, no two with an arc in common.
 pub record FlowRoutes (f : ℕ → ℕ → Bool) (a b : ℕ) (routes : List (List ℕ)) : Type 0 where
   pub each : All (Route f a b) routes
   pub ascending : Ascending routes
@@ -73,7 +73,8 @@ abbrev pub RoutesRoom : ℕ → (ℕ → ℕ → Bool) → ℕ → ℕ → ℕ �
 RoutesRoom order f a b room =
     (routes : List (List ℕ)) → FlowRoutes f a b routes → route_bytes (map (vertices order) routes) ≤ room
 
--- The flow was f and is h; the bytes were `start` and are `now`, and place `next` comes next.
+-- One route over c along the flow f was taken out of it, which is h then, and its bytes stand from the place
+-- `at` on in `now`; all else there is as in `start`, and the place `next` comes next.
 pub record Taken (order : ℕ) (f h : ℕ → ℕ → Bool) (a b c at : ℕ) (start : List ℕ) (next : ℕ) (now : List ℕ) : Type 0 where
   pub route : List ℕ
   pub along : Route f a b route
@@ -82,7 +83,8 @@ pub record Taken (order : ℕ) (f h : ℕ → ℕ → Bool) (a b c at : ℕ) (st
   pub behind : next ≡ at + length (route_block (vertices order route))
   pub bytes : now ≡ placed at (route_block (vertices order route)) start
 
--- The bytes were `start` and are `now`.
+-- As many routes along the flow as go out of a stand in front in `now`, of each the number of its vertices and
+-- these; all past them is as in `start`.
 pub record Told (n order : ℕ) (f : ℕ → ℕ → Bool) (a b : ℕ) (start now : List ℕ) : Type 0 where
   pub routes : List (List ℕ)
   pub obey : FlowRoutes f a b routes

@@ -72,8 +72,8 @@ fn next_head(flow: &Arcs<'_>, p: u16, w: u16, n: u16) -> Option<u16>
     None
 }
 
-// Takes all routes out of the flow, by their second nodes ascending, and writes their vertices from the
-// first byte on. Bytes past them keep their content. The loop leaps from one second node to the next.
+// Takes all routes out of the flow, by their second nodes ascending, and writes of each the number of its
+// vertices and these, from the first byte on. Bytes past them keep their content. The loop leaps from one second node to the next.
 pub fn write_routes(
     web: Web,
     flow: &mut Arcs<'_>,
