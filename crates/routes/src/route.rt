@@ -84,6 +84,8 @@ pub fn write_routes(
     requires flow { Sends web.nodes (carried flow.old) web.from web.to }
     requires room { RoutesRoom web.order (carried flow.old) web.from web.to (length bytes.old) }
     ensures told { Told web.nodes web.order (carried flow.old) web.from web.to bytes.old bytes.new }
+    ensures same_reference { flow.new.words.ghost_name ≡ flow.old.words.ghost_name }
+    ensures same_notes { notes.new.before.ghost_name ≡ notes.old.before.ghost_name }
 {
     let mut at = 0;
     let mut w = 0;
