@@ -1,3 +1,4 @@
 pub mod Sets
 pub mod Heads
+pub mod Shared
 pub mod Fresh

@@ -19,7 +19,7 @@ use Rattle.rows.specs.Marks.{marked, fresh}
 use Rattle.rows.specs.declared.marks.Marks.{Marks}
 
 -- Any place of a list of zeros, or past it, has 0.
-all_zeros : (n i : ℕ) → get_or {A = ℕ} (replicate n 0) i 0 ≡ 0
+pub all_zeros : (n i : ℕ) → get_or {A = ℕ} (replicate n 0) i 0 ≡ 0
 all_zeros n i =
     ⊎_elim (λ h. get_or-replicate n i 0 0 h) (λ h. get_or_past (replicate n 0) i 0 (rw (length-replicate {A = ℕ} n 0) h)) (cases_lt i n)
 

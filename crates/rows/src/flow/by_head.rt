@@ -7,11 +7,8 @@ ghost use Rattle.rows.specs.Flow.{carried, with_arc, without_arc};
 ghost use Rattle.rows.specs.Layout.{set_words, set_limit, row_words, arc_words};
 ghost use Rattle.rows.specs.Marks.{marked};
 
-use super::Arcs;
+use super::{Arcs, Carries, ROW_WORDS};
 use crate::marks::{Marks, SET_WORDS};
-
-// How many words a row takes.
-const ROW_WORDS: usize = 8;
 
 // Writes 0 into the rows of so many heads.
 fn wipe_rows(words: &mut [u64], heads: u16)
@@ -126,5 +123,25 @@ impl<'a> Arcs<'a> {
         } else {
             None
         }
+    }
+}
+
+// A search asks the methods above.
+impl Carries for Arcs<'_> {
+    ghost arcs = { carried };
+
+    // Whether the flow goes along the arc from q to p.
+    fn carries(&self, q: u16, p: u16) -> bool {
+        Arcs::carries(self, q, p)
+    }
+
+    // The lowest tail from w up of an arc to p.
+    fn next_tail(&self, p: u16, w: u16) -> Option<u16> {
+        Arcs::next_tail(self, p, w)
+    }
+
+    // The nodes of a set and, besides them, the tails of the arcs to p.
+    fn with_tails(&self, p: u16, set: &Marks) -> Marks {
+        Arcs::with_tails(self, p, set)
     }
 }
