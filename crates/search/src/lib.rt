@@ -6,7 +6,6 @@
 
 ghost use Rattle.std.specs.Prelude.{◌≡◌, ℕ, ◌<◌, true, false, IfSome, MatchOption};
 ghost use Rattle.flows.specs.Flow.{residual, residual_side};
-ghost use Rattle.rows.specs.Flow.{carried};
 ghost use Rattle.rows.specs.Marks.{marked};
 ghost use Rattle.augment.specs.Trails.{Trail};
 ghost use Rattle.search.specs.Goals.{Closed};
@@ -23,7 +22,7 @@ pub use goal::{closed_to, far_from};
 use plan::Plan;
 use queue::enter;
 use ring::Ring;
-use rows::flow::Arcs;
+use rows::flow::Carries;
 use rows::marks::Marks;
 pub use slots::Slots;
 use steps::{next_along, next_back};
@@ -32,10 +31,11 @@ pub use waiting::Waiting;
 // Marks what `from` reaches by residual steps: along an arc with room, or back along the flow. With
 // a goal, it leaves off at the first node that is the goal or from which one arc with room, or two,
 // lead to it, and the notes lead back. The path stands in the notes, so the answer is a flag. Lent
-// with a goal are the nodes from which no arc with room leads to it.
-pub fn search<P: Plan, E: Waiting>(
+// with a goal are the nodes from which no arc with room leads to it. The flow is only asked, so it may
+// lie in words that are lent for reading alone.
+pub fn search<P: Plan, E: Waiting, F: Carries>(
     plan: &mut P,
-    flow: &Arcs<'_>,
+    flow: &F,
     marks: &mut Marks,
     notes: &mut Notes<'_>,
     slots: &mut Slots<'_, E>,
@@ -44,12 +44,12 @@ pub fn search<P: Plan, E: Waiting>(
     closed: &Marks,
 ) -> bool
     requires start { from < (P.digraph plan.old).nodes }
-    requires goal { IfSome goal (λ t. (t < (P.digraph plan.old).nodes) × Closed (P.digraph plan.old) (carried flow.now) t (marked closed.now)) }
+    requires goal { IfSome goal (λ t. (t < (P.digraph plan.old).nodes) × Closed (P.digraph plan.old) (F.arcs flow.now) t (marked closed.now)) }
     ensures same { plan.new ≡ plan.old }
     ensures same_reference { notes.new.before.ghost_name ≡ notes.old.before.ghost_name }
-    ensures found { result ≡ true → MatchOption goal ⊥ (λ t. Trail (residual (P.digraph plan.old) (carried flow.now)) from t notes.new.before.now) }
-    ensures swept { result ≡ false → (q : ℕ) → marked marks.new q ≡ residual_side (P.digraph plan.old) (carried flow.now) from q }
-    ensures missed { result ≡ false → IfSome goal (λ t. residual_side (P.digraph plan.old) (carried flow.now) from t ≡ false) }
+    ensures found { result ≡ true → MatchOption goal ⊥ (λ t. Trail (residual (P.digraph plan.old) (F.arcs flow.now)) from t notes.new.before.now) }
+    ensures swept { result ≡ false → (q : ℕ) → marked marks.new q ≡ residual_side (P.digraph plan.old) (F.arcs flow.now) from q }
+    ensures missed { result ≡ false → IfSome goal (λ t. residual_side (P.digraph plan.old) (F.arcs flow.now) from t ≡ false) }
 {
     let n = plan.node_count();
     marks.clear();

@@ -4,18 +4,17 @@
 ghost use Rattle.std.specs.Prelude.{◌≡◌, ◌+◌, ◌-◌, ◌<◌, ◌≤◌, not};
 ghost use Rattle.graph.specs.Graph.{first};
 ghost use Rattle.flows.specs.Flow.{back};
-ghost use Rattle.rows.specs.Flow.{carried};
 ghost use Rattle.rows.specs.Layout.{set_limit};
 ghost use Rattle.rows.specs.Marks.{marked, fresh};
 ghost use Rattle.search.specs.Steps.{along};
 
 use plan::Plan;
-use rows::flow::Arcs;
+use rows::flow::Carries;
 use rows::marks::Marks;
 
 // Whether the flow leaves room on the arc from p to q.
-fn has_room(flow: &Arcs<'_>, p: u16, q: u16) -> bool
-    ensures { result ≡ not (carried flow.now p q) }
+fn has_room<F: Carries>(flow: &F, p: u16, q: u16) -> bool
+    ensures { result ≡ not (F.arcs flow.now p q) }
 {
     !flow.carries(p, q)
 }
@@ -30,14 +29,14 @@ fn unmarked_above(marks: &Marks, q: u16, n: u16) -> Option<u16>
 
 // The lowest node from w up that is not marked and to which an arc with room leads from p. The plan
 // passes over the marked nodes.
-pub(crate) fn next_along<P: Plan>(
+pub(crate) fn next_along<P: Plan, F: Carries>(
     plan: &mut P,
-    flow: &Arcs<'_>,
+    flow: &F,
     marks: &Marks,
     p: u16,
     w: u16,
 ) -> Option<u16>
-    ensures value { result ≡ first (fresh (marked marks.now) (along (P.digraph plan.old) (carried flow.now) p)) w ((P.digraph plan.old).nodes - w) }
+    ensures value { result ≡ first (fresh (marked marks.now) (along (P.digraph plan.old) (F.arcs flow.now) p)) w ((P.digraph plan.old).nodes - w) }
     ensures same { plan.new ≡ plan.old }
 {
     let mut v = w;
@@ -52,9 +51,9 @@ pub(crate) fn next_along<P: Plan>(
 
 // The lowest node from w up and below n that is not marked and from which the flow leads to p.
 // Where the flow leads from a marked node, the marked nodes above it are leapt over.
-pub(crate) fn next_back(flow: &Arcs<'_>, marks: &Marks, p: u16, w: u16, n: u16) -> Option<u16>
+pub(crate) fn next_back<F: Carries>(flow: &F, marks: &Marks, p: u16, w: u16, n: u16) -> Option<u16>
     requires { n ≤ set_limit }
-    ensures { result ≡ first (fresh (marked marks.now) (back (carried flow.now) p)) w (n - w) }
+    ensures { result ≡ first (fresh (marked marks.now) (back (F.arcs flow.now) p)) w (n - w) }
 {
     let mut v = w;
     while let Some(q) = flow.next_tail(p, v) {

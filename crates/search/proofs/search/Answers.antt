@@ -3,7 +3,6 @@ use Rattle.std.proofs.lemmas.List.{length-map}
 use Rattle.std.proofs.lemmas.Bool.{or_left, eqb-true}
 use Rattle.graph.proofs.Firsts.{Found}
 use Rattle.flows.specs.Flow.{back}
-use Rattle.rows.specs.Flow.{carried}
 use Rattle.rows.specs.Marks.{marked, fresh}
 use Rattle.search.specs.Steps.{along}
 use Rattle.search.specs.Goals.{Closed}
@@ -18,7 +17,7 @@ use Rattle.search.proofs.search.Goals.{After-finds_goal, After-next_along, In-So
 
 -- At first the start alone is marked, and waits, unless the search leaves off at it.
 state_first : (g : given.Over) (c : After-finds_goal g) (stop : ℕ → Bool) (before : List ℕ) → stop c.args.from ≡ false
-    → State (g.P.Plan.digraph c.args.plan.now) (carried c.args.flow.now) c.args.from stop Nobody
+    → State (g.P.Plan.digraph c.args.plan.now) (g.F.Carries.arcs c.args.flow.now) c.args.from stop Nobody
     (map g.E.Waiting.node c.enter.new.queue.items) (marked c.enter.new.marks) before
 state_first g c stop before goes =
     let alone = ap (λ (z : List g.row.E.Denot). map g.E.Waiting.node z ++ (c.args.from ∷ [])) c.new-queue.ensures.items in
@@ -31,7 +30,7 @@ kept_ahead g c = c.search.invariant.0 ∙ c.finds_goal.ensures.same ∙ c.node_c
 
 -- While arcs are looked at, a node is, with its arcs up to the next.
 turn_ahead : (g : given.Over) (c : After-next_along g)
-    → Turn (g.P.Plan.digraph c.search.plan) (carried c.args.flow.now) c.args.from (leaves_off c.args.goal (marked c.args.closed.now)) c.node-p.result c.along.ahead 0
+    → Turn (g.P.Plan.digraph c.search.plan) (g.F.Carries.arcs c.args.flow.now) c.args.from (leaves_off c.args.goal (marked c.args.closed.now)) c.node-p.result c.along.ahead 0
     (map g.E.Waiting.node c.along.queue.items) (marked c.along.marks) c.along.notes.before.now
     (length (map g.E.Waiting.node c.pop.new.self.items) + unmarked (marked c.search.marks) c.node_count-n.result)
 turn_ahead g c =
@@ -41,7 +40,7 @@ turn_ahead g c =
 
 -- The node that was found along an arc is fresh.
 next_ahead : (g : given.Over) (c : In-Some-next_along g)
-    → Found (fresh (marked c.along.marks) (along (g.P.Plan.digraph c.search.plan) (carried c.args.flow.now) c.node-p.result))
+    → Found (fresh (marked c.along.marks) (along (g.P.Plan.digraph c.search.plan) (g.F.Carries.arcs c.args.flow.now) c.node-p.result))
     c.along.ahead (g.P.Plan.digraph c.search.plan).nodes c.in-Some-next_along.q
 next_ahead g c = along_found g.P.Plan.digraph c.along.invariant.0 _ _ _ _ c.in-Some-next_along.ensures.value
 
@@ -56,7 +55,7 @@ nodes_behind g c = rw (c.in_default-next_along.ensures.same, c.along.invariant.0
 
 -- While the flow is looked at, a node is, with all its arcs, and with the flow up to the next.
 turn_behind : (g : given.Over) (c : After-next_back g)
-    → Turn (g.P.Plan.digraph c.next_along.new.plan) (carried c.args.flow.now) c.args.from (leaves_off c.args.goal (marked c.args.closed.now)) c.node-p.result
+    → Turn (g.P.Plan.digraph c.next_along.new.plan) (g.F.Carries.arcs c.args.flow.now) c.args.from (leaves_off c.args.goal (marked c.args.closed.now)) c.node-p.result
     c.node_count-n.result c.back.behind
     (map g.E.Waiting.node c.back.queue.items) (marked c.back.marks) c.back.notes.before.now
     (length (map g.E.Waiting.node c.along.queue.items) + unmarked (marked c.along.marks) c.node_count-n.result)
@@ -67,7 +66,7 @@ turn_behind g c =
 
 -- The node that was found back along the flow is fresh.
 next_behind : (g : given.Over) (c : In-Some-next_back g)
-    → Found (fresh (marked c.back.marks) (back (carried c.args.flow.now) c.node-p.result))
+    → Found (fresh (marked c.back.marks) (back (g.F.Carries.arcs c.args.flow.now) c.node-p.result))
     c.back.behind (g.P.Plan.digraph c.next_along.new.plan).nodes c.in-Some-next_back.q
 next_behind g c = found_at _ _ (nodes_behind g (goal.at.In-Some-next_back g c).After-next_back) c.in-Some-next_back.ensures
 
@@ -188,7 +187,7 @@ search-preserved g c =
 pub returns-then-finds_goal-clause-found : goal.returns-then-finds_goal-clause-found
 returns-then-finds_goal-clause-found g c _ =
     let at = goal.at.returns-then-finds_goal-clause-found g c in
-    let f = carried c.args.flow.now in
+    let f = g.F.Carries.arcs c.args.flow.now in
     let closed = marked c.args.closed.now in
     let start = state_first g at.After-finds_goal nowhere c.args.notes.now.before.now refl in
     let marks = first_marks c.args.from c.clear.ensures c.enter.ensures.marks in
@@ -200,7 +199,7 @@ returns-then-finds_goal-clause-found g c _ =
 pub returns-then-finds_goal-2-clause-found : goal.returns-then-finds_goal-2-clause-found
 returns-then-finds_goal-2-clause-found g c _ =
     let at = goal.at.returns-then-finds_goal-2-clause-found g c in
-    let f = carried c.args.flow.now in
+    let f = g.F.Carries.arcs c.args.flow.now in
     let closed = marked c.args.closed.now in
     let kept = kept_ahead g at.After-next_along in
     let here = c.in-Some-next_along.ensures.same ∙ c.along.invariant.0 in
@@ -214,7 +213,7 @@ returns-then-finds_goal-2-clause-found g c _ =
 pub returns-then-finds_goal-3-clause-found : goal.returns-then-finds_goal-3-clause-found
 returns-then-finds_goal-3-clause-found g c _ =
     let at = goal.at.returns-then-finds_goal-3-clause-found g c in
-    let f = carried c.args.flow.now in
+    let f = g.F.Carries.arcs c.args.flow.now in
     let closed = marked c.args.closed.now in
     let kept = c.in_default-next_along.ensures.same ∙ c.along.invariant.0 ∙ kept_ahead g at.After-next_along in
     let sought : IfSome c.args.goal (λ t. (t < (g.P.Plan.digraph c.next_along.new.plan).nodes) × Closed (g.P.Plan.digraph c.next_along.new.plan) f t closed) =

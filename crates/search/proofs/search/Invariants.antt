@@ -3,7 +3,6 @@
 -- to so far. The notes lie over the same numbers. Each node that is taken from the queue lowers what waits and what is not marked.
 use Rattle.std.proofs.Common.{◌≡◌, ◌+◌, ◌-◌, ◌≤◌, false, map, length}
 use Rattle.graph.specs.Graph.{node_limit}
-use Rattle.rows.specs.Flow.{carried}
 use Rattle.rows.specs.Marks.{marked}
 use Rattle.search.proofs.States.{leaves_off, State, Nobody, unmarked}
 use Rattle.search.proofs.Turns.{Turn}
@@ -15,7 +14,7 @@ invariant-search g l =
     × (l.found ≡ false)
     × (l.n ≡ (g.P.Plan.digraph l.plan).nodes)
     × (node_limit ≤ l.queue.room)
-    × State (g.P.Plan.digraph l.initial.plan) (carried l.flow) l.from (leaves_off l.goal (marked l.closed)) Nobody
+    × State (g.P.Plan.digraph l.initial.plan) (g.F.Carries.arcs l.flow) l.from (leaves_off l.goal (marked l.closed)) Nobody
     (map g.E.Waiting.node l.queue.items) (marked l.marks) l.notes.before.now
     × (l.notes.before.ghost_name ≡ l.initial.notes.before.ghost_name)
 
@@ -30,9 +29,9 @@ invariant-along g l =
     × (l.found ≡ false)
     × (l.n ≡ (g.P.Plan.digraph l.plan).nodes)
     × (node_limit ≤ l.queue.room)
-    × (Turn (g.P.Plan.digraph l.initial.plan) (carried l.flow) l.from (leaves_off l.goal (marked l.closed)) l.p 0 0
+    × (Turn (g.P.Plan.digraph l.initial.plan) (g.F.Carries.arcs l.flow) l.from (leaves_off l.goal (marked l.closed)) l.p 0 0
     first (marked l.initial.marks) l.initial.notes.before.now e
-    → Turn (g.P.Plan.digraph l.initial.plan) (carried l.flow) l.from (leaves_off l.goal (marked l.closed)) l.p l.ahead 0
+    → Turn (g.P.Plan.digraph l.initial.plan) (g.F.Carries.arcs l.flow) l.from (leaves_off l.goal (marked l.closed)) l.p l.ahead 0
     (map g.E.Waiting.node l.queue.items) (marked l.marks) l.notes.before.now e)
     × (l.notes.before.ghost_name ≡ l.initial.notes.before.ghost_name)
 
@@ -46,9 +45,9 @@ invariant-back g l =
     (l.plan ≡ l.initial.plan)
     × (l.found ≡ false)
     × (node_limit ≤ l.queue.room)
-    × (Turn (g.P.Plan.digraph l.initial.plan) (carried l.flow) l.from (leaves_off l.goal (marked l.closed)) l.p l.n 0
+    × (Turn (g.P.Plan.digraph l.initial.plan) (g.F.Carries.arcs l.flow) l.from (leaves_off l.goal (marked l.closed)) l.p l.n 0
     first (marked l.initial.marks) l.initial.notes.before.now e
-    → Turn (g.P.Plan.digraph l.initial.plan) (carried l.flow) l.from (leaves_off l.goal (marked l.closed)) l.p l.n l.behind
+    → Turn (g.P.Plan.digraph l.initial.plan) (g.F.Carries.arcs l.flow) l.from (leaves_off l.goal (marked l.closed)) l.p l.n l.behind
     (map g.E.Waiting.node l.queue.items) (marked l.marks) l.notes.before.now e)
     × (l.notes.before.ghost_name ≡ l.initial.notes.before.ghost_name)
 

@@ -1,6 +1,5 @@
 use Rattle.std.proofs.Common.{◌∙◌, arith}
 use Rattle.graph.proofs.Firsts.{Found}
-use Rattle.rows.specs.Flow.{carried}
 use Rattle.rows.specs.Marks.{marked, fresh}
 use Rattle.rows.proofs.Fresh.{found_in, none_in}
 use Rattle.search.proofs.Fresh.{along_hit, along_on, along_end}
@@ -19,7 +18,7 @@ pub returns-then-has_room-clause-value : goal.returns-then-has_room-clause-value
 returns-then-has_room-clause-value g c =
     let d = g.P.Plan.digraph c.args.plan.now in
     let f = next g (goal.at.returns-then-has_room-clause-value g c).In-Some in
-    along_hit d (carried c.args.flow.now) (marked c.args.marks.now) c.args.p c.loop-q.invariant.1 f c.has_room.ensures c.if-has_room.true
+    along_hit d (g.F.Carries.arcs c.args.flow.now) (marked c.args.marks.now) c.args.p c.loop-q.invariant.1 f c.has_room.ensures c.if-has_room.true
 
 pub overflow_add-v : goal.overflow_add-v
 overflow_add-v g c = omega (arith, (next g (goal.at.overflow_add-v g c).In-Some).below, g.P.Plan.small c.args.plan.now)
@@ -34,11 +33,11 @@ loop-q-preserved g c =
     let d = g.P.Plan.digraph c.args.plan.now in
     let f = next g (goal.at.loop-q-preserved g c).In-Some in (
       c.in-Some.ensures.same ∙ c.loop-q.invariant.0,
-      along_on d (carried c.args.flow.now) (marked c.args.marks.now) c.args.p c.loop-q.invariant.1 f c.has_room.ensures c.if-has_room.false,
+      along_on d (g.F.Carries.arcs c.args.flow.now) (marked c.args.marks.now) c.args.p c.loop-q.invariant.1 f c.has_room.ensures c.if-has_room.false,
     )
 
 pub returns-clause-value : goal.returns-clause-value
 returns-clause-value g c =
     let D = g.P.Plan.digraph in
-    along_end (D c.args.plan.now) (carried c.args.flow.now) (marked c.args.marks.now) c.args.p c.loop-q.invariant.1
+    along_end (D c.args.plan.now) (g.F.Carries.arcs c.args.flow.now) (marked c.args.marks.now) c.args.p c.loop-q.invariant.1
     (none_in (λ x. fresh (marked c.args.marks.now) ((D x).arc c.args.p)) (λ x. (D x).nodes) c.loop-q.v c.loop-q.invariant.0 c.in_default.ensures.value)
