@@ -1,4 +1,4 @@
-use Rattle.std.proofs.Common.{◌<◌, length, arith, length-set, rules}
+use Rattle.std.proofs.Common.{arith, length-set}
 use lib.Seq.{drop-set-add}
 use Rattle.std.proofs.lemmas.Grind.{common_steps}
 use Rattle.std.proofs.lemmas.List.{take_more_set}
@@ -9,8 +9,7 @@ use Rattle.ring.proofs.queue.Ring.push.Goals as goal
 pub invariant_of-self : goal.invariant_of-self
 unfolding ring_items
 invariant_of-self g c =
-    let free : c.self.inside.len < length c.self.inside.slots.now = search rules in
-    (simp length-set (omega arith), λ h. grind (arith, common_steps), grind (arith, common_steps))
+    (grind (arith, length-set), λ h. grind (arith, common_steps), grind (arith, common_steps))
 
 -- It stands at the end.
 pub returns-clause-items : goal.returns-clause-items
