@@ -65,7 +65,7 @@ lent_words words = record { enough = λ n. nat_le (vertex_words * n) (length wor
 -- A make of n vertices, and an edge between two of them set or cleared, change no word past the rows.
 abbrev pub RestStays : Type 0
 RestStays =
-    (n : ℕ) (words : List ℕ) → n ≤ make_limit → vertex_words * n ≤ length words
+    (n : ℕ) (words : List ℕ) → n ≤ order_limit → vertex_words * n ≤ length words
     → (drop (vertex_words * n) (wiped n words) ≡ drop (vertex_words * n) words)
     × ((on : Bool) (u v : ℕ) → u < n → v < n → drop (vertex_words * n) (edge_words on words u v) ≡ drop (vertex_words * n) words)
 

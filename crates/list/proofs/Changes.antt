@@ -1,10 +1,9 @@
 -- A join and a part on cells: what the search for the number found, and what the shift leaves.
 use Rattle.std.proofs.Common.{◌≡◌, ℕ, ◌+◌, ◌-◌, ◌<◌, ◌≤◌, true, false, ◌&&◌, eqb, ltb, List, length, get_or, Decides, sym, refl, ap, ◌∙◌, subst, arith}
 use Rattle.std.proofs.lemmas.Bool.Decides.{Decides-and, Decides-ltb, Decides-eqb}
-use Rattle.graph.specs.Graph.{edges, with_edge, without_edge}
-use Rattle.model.specs.Model.{make_limit}
+use Rattle.graph.specs.Graph.{order_limit, edges, with_edge, without_edge}
 use Rattle.graph.proofs.Edges.{one_edge_more_lem, one_edge_less_lem}
-use Rattle.list.specs.Cells.{code, holds, Rising, listing, listing_simple, place, inserted_cells, removed_cells}
+use Rattle.list.specs.Cells.{code, holds, Rising, listing, listing_simple, few_vertices, place, inserted_cells, removed_cells}
 use Rattle.list.specs.Edges.{Listed}
 use Rattle.list.specs.Meaning.{codes_of, laid_cells, taken_cells}
 use Rattle.list.specs.declared.List.{List as Store}
@@ -16,7 +15,7 @@ use Rattle.list.proofs.Listings.{listing_inside, listing_inserted, listing_remov
 -- A map of n vertices in the first k cells, with the facts that a list keeps.
 pub record Kept (n k : ℕ) (xs : List ℕ) : Type 0 where
   pub some : 1 ≤ n
-  pub small : n ≤ make_limit
+  pub small : n ≤ order_limit
   pub fits : k ≤ length xs
   pub rising : Rising k xs
   pub tally : edges (listing n k xs) ≡ k
@@ -24,7 +23,7 @@ pub record Kept (n k : ℕ) (xs : List ℕ) : Type 0 where
 
 -- What a list says by its own fields.
 pub kept_of : (s : Store) → Kept s.n s.count (codes_of s)
-kept_of s = record { some = s.some; small = s.small; fits = s.fits; rising = s.rising; tally = s.tally; listed = s.listed }
+kept_of s = record { some = s.some; small = few_vertices s.n s.small; fits = s.fits; rising = s.rising; tally = s.tally; listed = s.listed }
 
 -- Two different vertices, and the place at of their number d among those cells.
 pub record Sought (n k : ℕ) (xs : List ℕ) (u v d at : ℕ) : Type 0 where

@@ -2,8 +2,7 @@
 use Rattle.std.proofs.Common.{◌≡◌, ℕ, ◌+◌, ◌-◌, ◌<◌, ◌≤◌, Bool, false, not, ◌&&◌, ◌||◌, eqb, ltb, List, get_or, refl, ap, ◌∙◌, ⊎_elim, arith}
 use Rattle.std.proofs.lemmas.Bool.Decides.{nat_tests}
 use Rattle.std.proofs.lemmas.Bool.{cases_lt, lt-ltb, ne_eqb, and_right}
-use Rattle.graph.specs.Graph.{edges, same_edge, empty, with_edge, without_edge}
-use Rattle.model.specs.Model.{make_limit}
+use Rattle.graph.specs.Graph.{order_limit, edges, same_edge, empty, with_edge, without_edge}
 use Rattle.graph.proofs.Edges.{same_graph, edges_none}
 use Rattle.list.specs.Cells.{code, holds, Rising, listing}
 use Rattle.list.proofs.Shifts.{Inserted, Removed}
@@ -41,7 +40,7 @@ off : (n a b : ℕ) (x y : Bool) → ((a < n) × (b < n) → ⊥) → (((ltb a n
 off n a b x y h = grind (arith, nat_tests)
 
 -- Tests of numbers that agree at the codes of vertices mean the same there.
-guarded : (n u v a b : ℕ) (p q : ℕ → Bool) (f : Bool → Bool → Bool) → n ≤ make_limit → u < n → v < n → ((d : ℕ) → p d ≡ f (q d) (eqb (code u v) d))
+guarded : (n u v a b : ℕ) (p q : ℕ → Bool) (f : Bool → Bool → Bool) → n ≤ order_limit → u < n → v < n → ((d : ℕ) → p d ≡ f (q d) (eqb (code u v) d))
     → (((ltb a n && ltb b n) && not (eqb a b)) && p (code a b)) ≡ (((ltb a n && ltb b n) && not (eqb a b)) && f (q (code a b)) (same_edge u v a b))
 guarded n u v a b p q f small hu hv e =
     ⊎_elim
@@ -54,7 +53,7 @@ guarded n u v a b p q f small hu hv e =
     (cases_lt a n)
 
 -- The number of an edge put in is that edge laid.
-pub listing_inserted : (n k : ℕ) (xs ys : List ℕ) (at u v : ℕ) → n ≤ make_limit → u < n → v < n → (u ≡ v → ⊥) → at ≤ k
+pub listing_inserted : (n k : ℕ) (xs ys : List ℕ) (at u v : ℕ) → n ≤ order_limit → u < n → v < n → (u ≡ v → ⊥) → at ≤ k
     → Inserted xs ys k at (code u v) → listing n (k + 1) ys ≡ with_edge (listing n k xs) u v
 listing_inserted n k xs ys at u v small hu hv ne le e =
     same_graph (listing n (k + 1) ys) (with_edge (listing n k xs) u v) refl
@@ -62,7 +61,7 @@ listing_inserted n k xs ys at u v small hu hv ne le e =
     ∙ put_here n u v a b (holds k xs (code a b)) hu hv ne)
 
 -- The number of an edge taken out is that edge taken up.
-pub listing_removed : (n k : ℕ) (xs ys : List ℕ) (at u v : ℕ) → n ≤ make_limit → u < n → v < n → Rising k xs → at < k → get_or xs at 0 ≡ code u v
+pub listing_removed : (n k : ℕ) (xs ys : List ℕ) (at u v : ℕ) → n ≤ order_limit → u < n → v < n → Rising k xs → at < k → get_or xs at 0 ≡ code u v
     → Removed xs ys k at → listing n (k - 1) ys ≡ without_edge (listing n k xs) u v
 listing_removed n k xs ys at u v small hu hv up l stood e =
     same_graph (listing n (k - 1) ys) (without_edge (listing n k xs) u v) refl

@@ -3,6 +3,7 @@
 --   code, free                       the number of an edge; what a cell holds that was just freed
 --   holds, Rising                    whether one of the first k cells holds c; those cells ascend
 --   listing, listing_simple          the graph that the first k cells mean; it is simple
+--   few_vertices                     what a make accepts is small enough for a graph
 --   place                            where c belongs among the first k cells
 --   inserted_cells, removed_cells    the cells after a number is put in, and after one is taken out
 use Rattle.std.specs.Prelude.{◌≡◌, ℕ, zero, suc, ◌+◌, ◌-◌, ◌*◌, ◌<◌, ◌≤◌, min, max, Bool, true, false, not, ◌&&◌, ◌||◌, ltb, List, ◌∷◌, ◌++◌, take, drop, ◌==◌, nat_lt, slice_index, slice_range, refl}
@@ -10,7 +11,7 @@ use Rattle.std.proofs.Common.{sym, ap, ap₂, lit≤}
 use Rattle.std.proofs.Math.Nat.{min_comm, max_comm, le_trans}
 use Rattle.std.proofs.lemmas.Bool.{and_parts, and_left, and_right, not_from_true, eq-eqb, ltb-true}
 use Rattle.std.proofs.lemmas.Bool.Decides.{same_from_decides, Decides-eqb, Decides-like}
-use Rattle.graph.specs.Graph.{Graph, Simple, count}
+use Rattle.graph.specs.Graph.{Graph, Simple, order_limit, count}
 use Rattle.model.specs.Model.{make_limit}
 
 -- The lower end times 256 and the higher end.
@@ -65,10 +66,10 @@ code_swap : (u v : ℕ) → code u v ≡ code v u
 code_swap u v = ap₂ (λ (x y : ℕ). x * 256 + y) (min_comm u v) (max_comm u v)
 
 -- Whatever the cells hold, they mean a simple graph.
-pub listing_simple : (n k : ℕ) (xs : List ℕ) → 1 ≤ n → n ≤ make_limit → Simple (listing n k xs)
+pub listing_simple : (n k : ℕ) (xs : List ℕ) → 1 ≤ n → n ≤ order_limit → Simple (listing n k xs)
 listing_simple n k xs some small = record {
   some = some;
-  small = le_trans small (lit≤ tt);
+  small = small;
   symmetric = λ u v.
       ap₂ (λ (x y : Bool). x && y)
       (ap₂ (λ (x y : Bool). x && not y) (and_swap (nat_lt u n) (nat_lt v n)) (eqb_swap u v))
@@ -78,3 +79,7 @@ listing_simple n k xs some small = record {
       let inside = and_parts _ _ (and_parts _ _ (and_parts _ _ h).0).0 in
       (ltb-true u n inside.0, ltb-true v n inside.1);
 }
+
+-- What a make accepts is small enough for a graph.
+pub few_vertices : (n : ℕ) → n ≤ make_limit → n ≤ order_limit
+few_vertices n few = le_trans few (lit≤ tt)

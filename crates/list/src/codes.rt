@@ -1,6 +1,6 @@
 // The numbers that cells hold, and cells moved by one.
 ghost use Rattle.std.specs.Prelude.{◌≡◌, ℕ, ◌+◌, ◌-◌, ◌<◌, ◌≤◌, length, slice_index};
-ghost use Rattle.model.specs.Model.{make_limit};
+ghost use Rattle.graph.specs.Graph.{order_limit};
 ghost use Rattle.list.specs.Cells.{code, free};
 
 use model::Vertex;
@@ -10,7 +10,7 @@ const FREE: u16 = u16::MAX;
 
 // The number of the edge between u and v.
 pub(crate) fn edge_code(u: Vertex, v: Vertex) -> u16
-    requires { (u < make_limit) × (v < make_limit) }
+    requires { (u < order_limit) × (v < order_limit) }
     ensures { result ≡ code u v }
 {
     u.min(v) * 256 + u.max(v)

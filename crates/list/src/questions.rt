@@ -1,7 +1,7 @@
 // What a list is asked.
 ghost use Rattle.std.specs.Prelude.{◌≡◌, ℕ, ◌<◌, ◌≤◌, ◌==◌, take, slice_index};
 ghost use Rattle.graph.specs.Graph.{degree, next};
-ghost use Rattle.list.specs.Cells.{place, listing_simple};
+ghost use Rattle.list.specs.Cells.{place, listing_simple, few_vertices};
 ghost use Rattle.list.specs.Meaning.{codes_of, graph_of, capacity_of};
 
 use crate::List;
@@ -61,7 +61,7 @@ impl<'a> List<'a> {
 impl<'a> Map for List<'a> {
     ghost graph = { graph_of };
 
-    ghost simple = { λ m. listing_simple m.n m.count (codes_of m) m.some m.small };
+    ghost simple = { λ m. listing_simple m.n m.count (codes_of m) m.some (few_vertices m.n m.small) };
 
     // The number of vertices.
     fn order(&mut self) -> u16 {

@@ -29,7 +29,7 @@ invariant_of-self c =
     let s = c.args.self.now in
     let a = (goal.at.invariant_of-self c).After-move_in in
     let k = inserted_kept _ _ _ _ _ _ _ (kept_of s) (sought (goal.at.invariant_of-self c).After-seek-at) (after a) c.requires.room c.requires.apart (put_in a) in
-    record { some = k.some; small = k.small; fits = k.fits; rising = k.rising; tally = k.tally; listed = k.listed }
+    record { some = k.some; small = s.small; fits = k.fits; rising = k.rising; tally = k.tally; listed = k.listed }
 
 pub returns : goal.returns
 returns c =

@@ -40,7 +40,7 @@ invariant_of-self c =
     let q = (goal.at.invariant_of-self c).After-seek-at in
     let there = stands q in
     let k = removed_kept _ _ _ _ _ _ _ (kept_of s) (sought q) (after a) there.0 there.1 c.requires.joined (taken_out a there.0) in
-    record { some = k.some; small = k.small; fits = k.fits; rising = k.rising; tally = k.tally; listed = k.listed }
+    record { some = k.some; small = s.small; fits = k.fits; rising = k.rising; tally = k.tally; listed = k.listed }
 
 pub returns : goal.returns
 returns c =
