@@ -26,17 +26,17 @@ pub enum Call {
     Lift(Vertex, Vertex),
 }
 
-// What an accepted call answers.
+// What an accepted call answers, by the number that it prints.
 #[derive(Debug, Clone, Copy, PartialEq, Eq)]
 pub enum Answer {
-    Made,
-    Joined,
-    Parted,
-    Struck,
-    Lifted,
+    Made = 0x81,
+    Joined = 0x82,
+    Parted = 0x83,
+    Struck = 0x84,
+    Lifted = 0x85,
 }
 
-// The number of an answer. By cases, since an answer that holds values can take no number of its own.
+// The number of an answer. By cases, since an answer that comes to hold values can keep no number of its own.
 impl From<Answer> for u8 {
     ghost from_gives = { λ answer number. number ≡ answer_number answer };
 
