@@ -1,9 +1,10 @@
 // The arcs in words that are lent for reading alone, laid out as those of `Arcs`. There may be any number
 // of words: a bit past them is clear.
-ghost use Rattle.std.specs.Prelude.{◌≡◌, ℕ, ◌≤◌, length};
+ghost use Rattle.std.specs.Prelude.{◌≡◌, ℕ, ◌-◌, ◌≤◌, length};
+ghost use Rattle.graph.specs.Graph.{first};
 ghost use Rattle.bits.specs.Bits.{has};
 ghost use Rattle.rows.specs.Flow.{arcs_in};
-ghost use Rattle.rows.specs.Layout.{set_words};
+ghost use Rattle.rows.specs.Layout.{set_words, set_limit};
 
 use super::{Carries, ROW_WORDS};
 use crate::marks::{Marks, SET_WORDS};
@@ -48,6 +49,13 @@ impl<'a> SharedArcs<'a> {
         let start = count.min(ROW_WORDS * p as usize);
         &self.words[start..count.min(start + SET_WORDS)]
     }
+
+    // The lowest tail from w up of an arc to p, in its row.
+    fn tail_in_row(&self, p: u16, w: u16) -> Option<u16>
+        ensures { result ≡ first (λ q. arcs_in self.now.words.now q p) w (set_limit - w) }
+    {
+        bits::next(self.row(p), true, w)
+    }
 }
 
 impl Carries for SharedArcs<'_> {
@@ -60,7 +68,7 @@ impl Carries for SharedArcs<'_> {
 
     // The lowest tail from w up of an arc to p.
     fn next_tail(&self, p: u16, w: u16) -> Option<u16> {
-        bits::next(self.row(p), true, w)
+        self.tail_in_row(p, w)
     }
 
     // The nodes of a set and, besides them, the tails of the arcs to p.
