@@ -2,6 +2,7 @@
 --
 --   all_reverse, apart_short   of lists: what holds of each item, and how many numbers there are
 --   read_reversed   the nodes of a trail, turned round, are what is read
+--   trail_is        so they are what is read, turned round
 --   way_turned      so the way back from its end leads back
 --   headed          a list that leads back from x begins with x
 --   way_last        where x is s, the way back from x is x alone
@@ -9,7 +10,7 @@
 --   way_noted       once v is noted at x, the way back from x is x and what led back from v
 use Rattle.std.proofs.Common.{◌≡◌, ℕ, zero, suc, ◌-◌, ◌<◌, ◌≤◌, Bool, true, false, cond, eqb, List, [], ◌∷◌, ◌++◌, reverse, length, get_or, set, All, sym, refl, ap, ◌∙◌, subst, arith}
 use mathlib.Core.List.{reverse-cons}
-use Rattle.std.proofs.lemmas.List.{length-reverse, get_or-reverse, get_or-set_same, get_or-set_other}
+use Rattle.std.proofs.lemmas.List.{reverse-reverse, length-reverse, get_or-reverse, get_or-set_same, get_or-set_other}
 use Rattle.std.proofs.lemmas.List.Elements.{All-nil, All-cons, All-head, All-tail}
 use Rattle.std.proofs.lemmas.Bool.{ne_eqb}
 use Rattle.graph.specs.Graph.{count, node_limit}
@@ -17,7 +18,7 @@ use Rattle.graph.proofs.Counts.{count_most, count_one}
 use Rattle.flows.specs.Lists.{among}
 use Rattle.flows.specs.Routes.{Walk, Apart}
 use Rattle.flows.proofs.Lists.{any_cons, among_head, among_off}
-use Rattle.augment.specs.Trails.{Noted, Trail, walk_back, way, LeadsBack}
+use Rattle.augment.specs.Trails.{Noted, Trail, walk_back, way, LeadsBack, ReadBack}
 use Rattle.augment.proofs.Backs.{back_last, back_next}
 
 -- A list that leads back is what is read.
@@ -82,6 +83,10 @@ read_reversed r s t before n trail h =
     let short = apart_short n xs trail.route.apart h in
     let back = turned r before s t xs trail.route.walk trail.route.apart trail.noted in
     read before s t n (reverse xs) back (rw (length-reverse xs) short)
+
+-- The nodes of a trail are those read back, turned round.
+pub trail_is : ReadBack
+trail_is r s t before n trail h = sym (reverse-reverse trail.nodes) ∙ ap reverse (read_reversed r s t before n trail h)
 
 -- The way back from the end of a trail leads back.
 pub way_turned : (r : ℕ → ℕ → Bool) (s t : ℕ) (before : List ℕ) (trail : Trail r s t before) → All (λ x. x < node_limit) trail.nodes

@@ -4,10 +4,12 @@
 --   Trail        a route whose nodes are noted
 --   walk_back    the nodes from t back to s, read from the notes
 --   way          all of them
+--   route_back   the nodes read, from s on to t
 --   LeadsBack    a list that goes from t back to s by the notes
 --   pushed_back  a flow pushed along nodes from the last one back
 --   PushedBack   it is the flow pushed along the trail
-use Rattle.std.specs.Prelude.{◌≡◌, ℕ, zero, suc, ◌<◌, Bool, cond, List, [], ◌∷◌, All, ◌==◌, ◌≢◌, slice_index}
+--   ReadBack     the nodes of a trail are those read back
+use Rattle.std.specs.Prelude.{◌≡◌, ℕ, zero, suc, ◌<◌, Bool, cond, List, [], ◌∷◌, reverse, All, ◌==◌, ◌≢◌, slice_index}
 use Rattle.graph.specs.Graph.{node_limit}
 use Rattle.flows.specs.Routes.{Route}
 use Rattle.flows.specs.Flow.{stepped, pushed}
@@ -33,6 +35,10 @@ walk_back before s t (suc n) = t ∷ cond (t == s) [] (walk_back before s (slice
 abbrev pub way : List ℕ → ℕ → ℕ → List ℕ
 way before s t = walk_back before s t node_limit
 
+-- The nodes back, turned round.
+abbrev pub route_back : List ℕ → ℕ → ℕ → ℕ → List ℕ
+route_back before s t n = reverse (walk_back before s t n)
+
 -- A list that leads by the notes from t back to s, which is met only at its end.
 abbrev pub LeadsBack : List ℕ → ℕ → ℕ → List ℕ → Type 0
 LeadsBack before s t [] = ⊥
@@ -50,3 +56,9 @@ abbrev pub PushedBack : Type 0
 PushedBack =
     (r : ℕ → ℕ → Bool) (s t : ℕ) (before : List ℕ) (n : ℕ) (trail : Trail r s t before) (f : ℕ → ℕ → Bool)
     → All (λ x. x < n) trail.nodes → pushed_back f (walk_back before s t n) ≡ pushed f trail.nodes
+
+-- A trail among the nodes below n is read back from what it noted.
+abbrev pub ReadBack : Type 0
+ReadBack =
+    (r : ℕ → ℕ → Bool) (s t : ℕ) (before : List ℕ) (n : ℕ) (trail : Trail r s t before)
+    → All (λ x. x < n) trail.nodes → trail.nodes ≡ route_back before s t n

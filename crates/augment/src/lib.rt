@@ -5,5 +5,5 @@
 mod notes;
 mod push;
 
-pub use notes::Notes;
+pub use notes::{Notes, read_back};
 pub use push::{augment, pushed_back};

@@ -2,6 +2,7 @@
 // node reads it back from the notes, node by node.
 ghost use Rattle.std.specs.Prelude.{◌≡◌, ◌<◌, ◌≤◌, length, slice_index, slice_set};
 ghost use Rattle.graph.specs.Graph.{node_limit};
+ghost use Rattle.augment.specs.Trails.{ReadBack};
 
 // Two nodes for each of 201 vertices. A route has no node twice, so it is no longer.
 pub(crate) const MOST_NODES: usize = 402;
@@ -40,3 +41,8 @@ impl<'a> Notes<'a> {
         self.before.get(x as usize).copied().unwrap_or(0)
     }
 }
+
+// What a trail noted is enough to read it back.
+pub fn read_back()
+    ensures { ReadBack }
+{}
