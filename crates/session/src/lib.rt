@@ -3,7 +3,7 @@
 #![tactic(auto)]
 
 ghost use Rattle.std.specs.Prelude.{◌≡◌, Err, IfOk, IfErr};
-ghost use Rattle.model.specs.Model.{unmade};
+ghost use Rattle.model.specs.Model.{unmade, blank};
 ghost use Rattle.model.specs.Table.{alone, reply};
 ghost use Rattle.model.specs.declared.call.Call.TheVariants.{Make};
 ghost use Rattle.strike.specs.Kept.{noted};
@@ -56,18 +56,29 @@ impl<S: Editable> Map for Planner<S> {
 }
 
 impl<S: Editable> Planner<S> {
+    // A planner of a map of n vertices, 1 to 200, with no edge laid and none struck; it takes as many edges
+    // as the memory has room for. It requires that the table accepts the make: `S::room` says whether it
+    // does, and who has not asked calls `open`.
+    pub fn make(n: u16, memory: S::Memory) -> Planner<S>
+        requires { reply (alone (S.room_in memory)) unmade (Make n) ≡ Ok tt }
+        ensures model { model_of S.graph S.most result ≡ blank n ((S.room_in memory).capacity n) }
+        ensures held { held_of S.held result ≡ S.fresh memory n }
+    {
+        Planner {
+            pile: Split::over(Line::over(Strike::over(S::make(n, memory)))),
+        }
+    }
+
     // The planner of an accepted make, or why it is refused. A refused make only looks at the memory, which
     // `room` takes by `&`.
-    fn make(n: u16, memory: S::Memory) -> Result<Planner<S>, Refused<S::Memory>>
+    fn make_if_room(n: u16, memory: S::Memory) -> Result<Planner<S>, Refused<S::Memory>>
         ensures accepted { IfOk result (λ p. AcceptedMake (S.room_in memory) n (model_of S.graph S.most p)) }
         ensures held { IfOk result (λ p. held_of S.held p ≡ S.fresh memory n) }
         ensures refused { IfErr result (λ e. reply (alone (S.room_in memory)) unmade (Make n) ≡ Err e.refusal) }
         ensures back { IfErr result (λ e. e.memory ≡ memory) }
     {
         match S::room(n, &memory) {
-            Ok(()) => Ok(Planner {
-                pile: Split::over(Line::over(Strike::over(S::make(n, memory)))),
-            }),
+            Ok(()) => Ok(Planner::make(n, memory)),
             Err(refusal) => Err(Refused { refusal, memory }),
         }
     }
@@ -80,6 +91,6 @@ impl<S: Editable> Planner<S> {
         ensures refused { IfErr result (λ e. reply (alone (S.room_in memory)) unmade (Make n) ≡ Err e.refusal) }
         ensures back { IfErr result (λ e. e.memory ≡ memory) }
     {
-        Planner::make(n, memory)
+        Planner::make_if_room(n, memory)
     }
 }

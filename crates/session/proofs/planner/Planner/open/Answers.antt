@@ -14,6 +14,6 @@ pub returns-clause-opened : goal.returns-clause-opened
 returns-clause-opened g c =
     let lent = alone (g.S.Editable.room_in c.args.memory) in
     let one = event lent (Make c.args.n) (Ok (plain answer.Made)) ∷ [] in
-    IfOk-weaker c.make.result _ _
+    IfOk-weaker c.make_if_room.result _ _
     (λ p h. (h, subst (λ (m : Model). Sound one (made m)) (sym h.1) (begun_lem lent c.args.n h.0)))
-    c.make.ensures.accepted
+    c.make_if_room.ensures.accepted
