@@ -14,8 +14,9 @@ pub struct Ring<'a, T: Copy> {
     len: usize,
 }
 
-// Clauses see the items in their order, and how many there is room for. They see the slots and the
-// first item's place too, so that `unchanged` says of a refused call that nothing at all changed.
+// Clauses see the items in their order, and how many there is room for. They see the slots, the first
+// item's place and which memory was lent too, so that `unchanged` says of a refused call that nothing at
+// all changed.
 impl<'a, T: Copy> Model for Ring<'a, T> {
     ghost use Rattle.std.specs.Prelude.{◌≡◌, ◌<◌, ◌≤◌, length};
     ghost use Rattle.ring.specs.Items.{ring_items};
@@ -23,7 +24,7 @@ impl<'a, T: Copy> Model for Ring<'a, T> {
 
     ghost Value = { Queue T };
 
-    ghost view = { λ r. record { items = ring_items r.slots.now r.head r.len; room = length r.slots.now; slots = r.slots.now; head = r.head } };
+    ghost view = { λ r. record { items = ring_items r.slots.now r.head r.len; room = length r.slots.now; slots = r.slots.now; head = r.head; memory = r.slots.ghost_name } };
 
     ghost invariant = { λ r. (r.len ≤ length r.slots.now) × (0 < length r.slots.now → r.head < length r.slots.now) × (length (ring_items r.slots.now r.head r.len) ≡ r.len) };
 }
