@@ -17,7 +17,8 @@ fn capital(d: u8) -> u8
     if d < 10 { b'0' + d } else { b'A' + (d - 10) }
 }
 
-// Writes one byte. Not by `write!`, whose error on a `Vec<u8>` is none of the allocator's.
+// Writes one byte: room for both characters first, so that neither stands there without the other, and
+// then each is put in its place. Not by `write!`, whose error on a `Vec<u8>` is none of the allocator's.
 fn write_byte(out: &mut Vec<u8>, b: u8) -> Result<(), AllocError>
     ensures items { OnOk result (out.new.items ≡ out.old.items ++ hex_byte b) }
     ensures failed { OnErr result (out.new.items ≡ out.old.items) }
@@ -25,7 +26,10 @@ fn write_byte(out: &mut Vec<u8>, b: u8) -> Result<(), AllocError>
     ensures capacity { vec_capacity out.old ≤ vec_capacity out.new }
     ensures succeeds { vec_len out.old + 2 ≤ vec_capacity out.old → IsOk result }
 {
-    out.extend_from_slice(&[capital(b / 16), capital(b % 16)])
+    out.reserve(2)?;
+    out.push_reserved(capital(b / 16));
+    out.push_reserved(capital(b % 16));
+    Ok(())
 }
 
 // Writes bytes one after the other.
