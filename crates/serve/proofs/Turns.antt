@@ -1,20 +1,29 @@
 -- A session that is answered line by line.
-use Rattle.std.proofs.Common.{◌≡◌, ℕ, suc, ◌+◌, ◌≤◌, List, [], ◌∷◌, Some, ◌++◌, length, Ok, Err, Result, sym, refl, ap, ap₂, ◌∙◌, subst, append_assoc, arith, length-append}
+use Rattle.std.proofs.Common.{◌≡◌, ℕ, suc, false, ◌+◌, ◌≤◌, List, [], ◌∷◌, Some, ◌++◌, length, Ok, Err, IfErr, Result, sym, refl, ap, ap₂, ◌∙◌, subst, append_assoc, arith, length-append}
 use Rattle.std.proofs.lemmas.List.{append-nil}
+use Rattle.graph.specs.Graph.{Graph}
 use Rattle.model.specs.declared.call.Answer.{Answer}
 use Rattle.model.specs.declared.call.Call.{Call}
+use Rattle.model.specs.declared.call.Call.TheVariants.{Make, Join, Part, Strike, Lift}
 use Rattle.model.specs.declared.refusal.Refusal.{Refusal}
-use Rattle.model.specs.Model.{Lent, State, unmade}
+use Rattle.model.specs.Kinds.{is_question}
+use Rattle.model.specs.Model.{Lent, Room, State, unmade}
 use Rattle.workspace.specs.declared.Workspace.{Workspace}
 use Rattle.workspace.specs.Buffers.{Buffers}
-use Rattle.workspace.specs.Parts.{SameMemory, Untouched}
-use Rattle.law.specs.Told.{said, left_by}
+use Rattle.workspace.specs.Parts.{buffers, sizes_of, SameMemory, Untouched}
+use Rattle.law.specs.Told.{told, said, left_by}
 use Rattle.law.specs.Law.{Event, event, Sound}
 use Rattle.law.proofs.Events.{not_begun_lem}
 use Rattle.frames.specs.declared.fault.FrameFault.{FrameFault}
+use Rattle.frames.specs.declared.fault.SessionFault.TheVariants as fault
 use Rattle.frames.specs.Frames.{request}
 use Rattle.frames.specs.Text.{Reported, reply_text, FrontPut}
 use Rattle.frames.proofs.Fronts.{front_is}
+use Rattle.session.specs.declared.planner.Planner.{Planner}
+use Rattle.session.specs.Kept.{state_reached}
+use Rattle.session.specs.Held.{held_next, HoldsAfter, HoldsChanged}
+use Rattle.session.specs.Calls.{lent_at, said_in}
+use Rattle.session.proofs.Held.{held_more}
 use Rattle.serve.specs.declared.lines.Line.{Line}
 use Rattle.serve.specs.declared.lines.Lines.{Lines}
 use Rattle.serve.specs.Lines.{lines}
@@ -121,6 +130,89 @@ Goes lent s l r s' = (events : List Event) → Sound events s → Sound (events 
 abbrev pub Leaves : Lent → State → List ℕ → Reply → (holds holds' : List Event → Type 0) → Type 0
 Leaves lent s l r holds holds' = (events : List Event) → Sound events s → holds events → holds' (events ++ events_at lent (request l) r)
 
+-- What a line and its reply do to a session that is answered so far.
+pub record Step (lent : Lent) (s s' : State) (holds holds' : List Event → Type 0) (mid new : Buffers) (l : List ℕ) (r : Reply) : Type 0 where
+  pub goes : Goes lent s l r s'
+  pub leaves : Leaves lent s l r holds holds'
+  pub fit : IsReplyTo (request l) r
+  pub exact : Exactly r
+  pub left : new ≡ left_after (events_at lent (request l) r) mid
+
+-- The reply to a line that asks for a call is one to it.
+fit_call : (line : List ℕ) (c : Call) (r : Result Answer Refusal) (b : Buffers) → request line ≡ Ok c → IsReplyTo (request line) (reply_in (as_call r) b)
+fit_call line c (Ok a) b asks = subst (λ (q : Result Call FrameFault). IsReplyTo q (Ok (told a b))) (sym asks) tt
+fit_call line c (Err r) b asks = subst (λ (q : Result Call FrameFault). IsReplyTo q (Err (fault.Call r))) (sym asks) tt
+
+-- It tells the lists that its answer has.
+exact_call : (r : Result Answer Refusal) (b : Buffers) → Exactly (reply_in (as_call r) b)
+exact_call (Ok a) b = refl
+exact_call (Err r) b = tt
+
+-- A line that asks for a call: the session keeps the law with it, and the memory under its store holds what it leaves there.
+pub step_call : {S M : Type 0} (held : S → List ℕ) (fresh : ℕ → List ℕ) (laid taken : Graph → List ℕ → ℕ → ℕ → List ℕ)
+    (lent : Lent) (session next : Result (Planner S) M) (s s' : State) (line : List ℕ) (c : Call) (r : Result Answer Refusal) (x : Reported) (old now : Buffers)
+    → request line ≡ Ok c → x ≡ as_call r
+    → ((events : List Event) → Sound events s → Sound (events ++ (event lent c (said r now) ∷ [])) s')
+    → HoldsChanged held session next (held_next fresh laid taken lent s c)
+    → now ≡ left_by (said r now) old
+    → Step lent s s' (HoldsAfter held fresh laid taken session) (HoldsAfter held fresh laid taken next) old now line (reply_in x now)
+step_call held fresh laid taken lent session next s s' line c r x old now asks is law changed wrote =
+    let one = ap₂ (λ (q : Result Call FrameFault) (y : Reported). events_at lent q (reply_in y now)) asks is ∙ event_of_call lent c r now in
+    record {
+      goes = λ events sound. subst (λ (es : List Event). Sound (events ++ es) s') (sym one) (law events sound);
+      leaves = λ events sound holds. subst (λ (es : List Event). HoldsAfter held fresh laid taken next (events ++ es)) (sym one)
+          (held_more fresh laid taken held next s events (event lent c (said r now)) [] sound (changed _ holds));
+      fit = subst (λ (y : Reported). IsReplyTo (request line) (reply_in y now)) (sym is) (fit_call line c r now asks);
+      exact = subst (λ (y : Reported). Exactly (reply_in y now)) (sym is) (exact_call r now);
+      left = left_call lent line c r x old now asks is wrote;
+    }
+
+-- What a turn does: the line is answered, nothing is written into the workspace, and memory that still waits is what waited.
+pub record Turn {S M : Type 0} (graph : S → Graph) (most : S → ℕ) (held : S → List ℕ) (fresh : ℕ → List ℕ) (laid taken : Graph → List ℕ → ℕ → ℕ → List ℕ)
+    (room : Room) (session next : Result (Planner S) M) (w now : Workspace) (line : List ℕ) (x : Reported) : Type 0 where
+  pub step : Step (lent_at room w) (state_reached graph most session) (state_reached graph most next)
+      (HoldsAfter held fresh laid taken session) (HoldsAfter held fresh laid taken next) (buffers w) (buffers now) line (reply_in x (buffers now))
+  pub back : IfErr next (λ m. session ≡ Err m)
+  pub untouched : Untouched w now
+  pub memory : SameMemory w now
+  pub sizes : sizes_of now ≡ sizes_of w
+
+-- No call of today is a question.
+no_question : (c : Call) → is_question c ≡ false
+no_question (Make n) = refl
+no_question (Join u v) = refl
+no_question (Part u v) = refl
+no_question (Strike u v) = refl
+no_question (Lift u v) = refl
+
+module _ {S : Type 0} (M : Type 0) (graph : S → Graph) (most : S → ℕ) (held : S → List ℕ) (fresh : ℕ → List ℕ)
+    (laid taken : Graph → List ℕ → ℕ → ℕ → List ℕ) (room : Room) where
+  -- A line that asks for a call of a session.
+  pub turn_session : (session next : Result (Planner S) M) (w now : Workspace) (line : List ℕ) (c : Call) (r : Result Answer Refusal) (x : Reported)
+      → request line ≡ Ok c → x ≡ as_call r
+      → ((events : List Event) → Sound events (state_reached graph most session)
+      → Sound (events ++ (event (lent_at room w) c (said_in r now) ∷ [])) (state_reached graph most next))
+      → HoldsChanged held session next (held_next fresh laid taken (lent_at room w) (state_reached graph most session) c)
+      → buffers now ≡ left_by (said_in r now) (buffers w)
+      → IfErr next (λ m. session ≡ Err m) → (is_question c ≡ false → Untouched w now) → SameMemory w now → sizes_of now ≡ sizes_of w
+      → Turn graph most held fresh laid taken room session next w now line x
+  turn_session session next w now line c r x asks is law changed wrote back edit memory sizes = record {
+    step = step_call held fresh laid taken (lent_at room w) session next (state_reached graph most session) (state_reached graph most next)
+        line c r x (buffers w) (buffers now) asks is law changed wrote;
+    back = back;
+    untouched = edit (no_question c);
+    memory = memory;
+    sizes = sizes;
+  }
+
+  -- The same where the session and the workspace are those before.
+  pub turn_from : (session before next : Result (Planner S) M) (w first now : Workspace) (line : List ℕ) (x : Reported)
+      → session ≡ before → w ≡ first
+      → Turn graph most held fresh laid taken room session next w now line x → Turn graph most held fresh laid taken room before next first now line x
+  turn_from session before next w first now line x same still turn =
+      subst (λ (v : Workspace). Turn graph most held fresh laid taken room before next v now line x) still
+      (subst (λ (s : Result (Planner S) M). Turn graph most held fresh laid taken room s next w now line x) same turn)
+
 -- No line is answered yet.
 dialogue_none : {holds : List Event → Type 0} (lent : Lent) (b : Buffers) → holds [] → Dialogue lent [] [] holds unmade b b
 unfolding events_of left_after
@@ -128,17 +220,17 @@ dialogue_none lent b held = record { replied = tt; sound = not_begun_lem; held =
 
 -- One line more is answered.
 dialogue_next : {holds holds' : List Event → Type 0} (lent : Lent) (ls : List (List ℕ)) (rs : List Reply) (s s' : State) (old mid new : Buffers) (l : List ℕ) (r : Reply)
-    → Dialogue lent ls rs holds s old mid → Goes lent s l r s' → Leaves lent s l r holds holds' → IsReplyTo (request l) r → Exactly r → new ≡ left_after (events_at lent (request l) r) mid
+    → Dialogue lent ls rs holds s old mid → Step lent s s' holds holds' mid new l r
     → Dialogue lent (ls ++ (l ∷ [])) (rs ++ (r ∷ [])) holds' s' old new
-dialogue_next {holds' = holds'} lent ls rs s s' old mid new l r d goes leaves fit exact step =
+dialogue_next {holds' = holds'} lent ls rs s s' old mid new l r d step =
     let es = events_of lent ls rs in
     let one = events_at lent (request l) r in
     let more = sym (events_push lent ls rs l r d.replied) in
     record {
-      replied = replied_push ls rs l r d.replied fit exact;
-      sound = subst (λ (xs : List Event). Sound xs s') more (goes es d.sound);
-      held = subst holds' more (leaves es d.sound d.held);
-      left = step ∙ ap (left_after one) d.left ∙ sym (left_later es one old) ∙ ap (λ (xs : List Event). left_after xs old) more;
+      replied = replied_push ls rs l r d.replied step.fit step.exact;
+      sound = subst (λ (xs : List Event). Sound xs s') more (step.goes es d.sound);
+      held = subst holds' more (step.leaves es d.sound d.held);
+      left = step.left ∙ ap (left_after one) d.left ∙ sym (left_later es one old) ∙ ap (λ (xs : List Event). left_after xs old) more;
     }
 
 -- At the beginning.
@@ -183,10 +275,10 @@ text_next before written rs r number h is =
 -- The text finds no memory after one line more.
 pub broken_next : {holds holds' : List Event → Type 0} (lent : Lent) (input : List ℕ) (s s' : State) (ls : Lines) (l : Line) (after : Lines) (old mid new : Buffers) (before written written' : List ℕ) (r : Reply)
     → Takes ls (Some l) after → SoFar lent input ls holds s old mid before written
-    → Goes lent s l.text.now r s' → Leaves lent s l.text.now r holds holds' → IsReplyTo (request l.text.now) r → Exactly r → new ≡ left_after (events_at lent (request l.text.now) r) mid
+    → Step lent s s' holds holds' mid new l.text.now r
     → FrontPut written (reply_text l.number (reported r)) written'
     → BrokenOff lent input holds' s' old new before written'
-broken_next lent input s s' ls l after old mid new before written written' r takes h goes leaves fit exact step put =
+broken_next lent input s s' ls l after old mid new before written written' r takes h step put =
     let many = as_many h.asked h.replies h.answered.replied in
     let number : l.number ≡ suc (length h.replies) = omega (arith, takes.1, h.counted, many) in
     record {
@@ -195,7 +287,7 @@ broken_next lent input s s' ls l after old mid new before written written' r tak
       in_order = order_next (lines input) h.asked l.text.now (left ls) (left after) h.in_order takes.0;
       whole = h.replies;
       last = r;
-      answered = dialogue_next lent h.asked h.replies s s' old mid new l.text.now r h.answered goes leaves fit exact step;
+      answered = dialogue_next lent h.asked h.replies s s' old mid new l.text.now r h.answered step;
       text = front_is written (before ++ session_text 1 h.replies) (reply_text l.number (reported r)) (reply_text (suc (length h.replies)) (reported r)) written'
           h.text (ap (λ (n : ℕ). reply_text n (reported r)) number) put;
     }
@@ -203,10 +295,10 @@ broken_next lent input s s' ls l after old mid new before written written' r tak
 -- One line more is answered, and its reply is written.
 pub so_far_next : {holds holds' : List Event → Type 0} (lent : Lent) (input : List ℕ) (s s' : State) (ls : Lines) (l : Line) (after : Lines) (old mid new : Buffers) (before written written' : List ℕ) (r : Reply)
     → Takes ls (Some l) after → SoFar lent input ls holds s old mid before written
-    → Goes lent s l.text.now r s' → Leaves lent s l.text.now r holds holds' → IsReplyTo (request l.text.now) r → Exactly r → new ≡ left_after (events_at lent (request l.text.now) r) mid
+    → Step lent s s' holds holds' mid new l.text.now r
     → written' ≡ written ++ reply_text l.number (reported r)
     → SoFar lent input after holds' s' old new before written'
-so_far_next lent input s s' ls l after old mid new before written written' r takes h goes leaves fit exact step put =
+so_far_next lent input s s' ls l after old mid new before written written' r takes h step put =
     let many = as_many h.asked h.replies h.answered.replied in
     let number : l.number ≡ 1 + length h.replies = omega (arith, takes.1, h.counted, many) in
     record {
@@ -214,6 +306,6 @@ so_far_next lent input s s' ls l after old mid new before written written' r tak
       in_order = order_next (lines input) h.asked l.text.now (left ls) (left after) h.in_order takes.0;
       counted = counted_next h.asked l.text.now ls.taken after.taken h.counted takes.2;
       replies = h.replies ++ (r ∷ []);
-      answered = dialogue_next lent h.asked h.replies s s' old mid new l.text.now r h.answered goes leaves fit exact step;
+      answered = dialogue_next lent h.asked h.replies s s' old mid new l.text.now r h.answered step;
       text = put ∙ text_next before written h.replies r l.number h.text number;
     }

@@ -6,11 +6,11 @@ ghost use Rattle.session.specs.Held.{HoldsAfter};
 ghost use Rattle.session.specs.Calls.{lent_at};
 ghost use Rattle.serve.specs.Served.{input_limit, SessionText, BrokenOff, Served, Broken, text_limit};
 
-use crate::line::answer;
+use crate::line::{answer, as_call};
 use crate::lines::Lines;
 use frames::{SessionFault, write_reply};
 use model::Refusal;
-use session::Planner;
+use session::{Planner, respond};
 use std::alloc::AllocError;
 use store::{Editable, Map};
 use workspace::Workspace;
@@ -18,7 +18,8 @@ use workspace::Workspace;
 // The most bytes of input that are read as lines.
 const INPUT_LIMIT: usize = 32768;
 
-// Answers an input line by line.
+// Answers an input line by line. A planner stays where it is, and so does the session at a fault; before the
+// make the memory is handed over with each call.
 fn answer_all<S: Editable>(
     memory: S::Memory,
     workspace: &mut Workspace<'_>,
@@ -39,8 +40,14 @@ fn answer_all<S: Editable>(
 {
     let mut session = Err(memory);
     for line in Lines::of(input) {
-        let (next, reply) = answer::<S>(session, workspace, line.text);
-        session = next;
+        let reply = match answer::<S>(&mut session, workspace, line.text) {
+            Ok(reply) => reply,
+            Err(call) => {
+                let (next, reply) = respond::<S>(session, call, workspace);
+                session = next;
+                as_call(reply)
+            }
+        };
         if let Err(failed) = write_reply(out, line.number, reply) {
             return (session, Err(failed));
         }
