@@ -5,15 +5,19 @@ ghost use Rattle.frames.specs.Hex.{digit, digit_value, bytes_of, bad_place, digi
 use crate::bytes::Bytes;
 use crate::fault::DigitFault;
 
-// The value of a hexadecimal digit in either case.
+// The value of a hexadecimal digit in either case. Each range is asked for by itself, which takes one
+// comparison; a `match` over all three compares with both bounds. Each digit of a good line comes here twice.
 fn digit(c: u8) -> Option<u8>
     ensures { result ≡ digit c }
 {
-    match c {
-        b'0'..=b'9' => Some(c - b'0'),
-        b'A'..=b'F' => Some(c - b'A' + 10),
-        b'a'..=b'f' => Some(c - b'a' + 10),
-        _ => None,
+    if matches!(c, b'0'..=b'9') {
+        Some(c - b'0')
+    } else if matches!(c, b'A'..=b'F') {
+        Some(c - b'A' + 10)
+    } else if matches!(c, b'a'..=b'f') {
+        Some(c - b'a' + 10)
+    } else {
+        None
     }
 }
 
